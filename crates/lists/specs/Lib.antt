@@ -1,0 +1,2 @@
+-- Statements and tests over the elements of a list.
+pub mod Lists

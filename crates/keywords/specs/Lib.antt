@@ -1,0 +1,2 @@
+-- The words of the two formats.
+pub mod Keywords

@@ -1,0 +1,29 @@
+-- Decimal numbers as bytes: how one is written, and how a word of one to a given number of digits is read.
+use mathlib.Core.Bool.{Bool, cond, _&&_}
+use mathlib.Core.List.{List, [], _∷_, _++_}
+use mathlib.Core.Option.{Option, none, some}
+use Prim.Native.Nat.{ℕ, zero, suc, _+_, _-_, _*_, _/_, _%_}
+use lib.ListN.{length}
+use lib.Dec.{leb, ltb}
+use Rattle.lists.specs.Lists.{allOf}
+
+-- the digits of n, where k bounds how often n is divided; k = n is always enough
+unfoldable pub digitsIn : ℕ → ℕ → List ℕ
+digitsIn zero n = (48 + n) ∷ []
+digitsIn (suc k) n = let more = digitsIn k (n / 10) ++ ((48 + n % 10) ∷ []) in cond (ltb n 10) ((48 + n) ∷ []) more
+
+-- the decimal digits of n, most significant first, no leading zero; 0 is the one digit 0
+unfoldable pub digits : ℕ → List ℕ
+digits n = digitsIn n n
+
+abbrev pub isDigit : ℕ → Bool
+isDigit b = leb 48 b && leb b 57
+
+-- the number that digits stand for, after those that make acc
+unfoldable pub valueFrom : ℕ → List ℕ → ℕ
+valueFrom acc [] = acc
+valueFrom acc (b ∷ bs) = valueFrom (acc * 10 + (b - 48)) bs
+
+-- a word of one to `most` digits is a number, leading zeros or not
+unfoldable pub number : ℕ → List ℕ → Option ℕ
+number most w = cond (leb 1 (length w) && leb (length w) most && allOf isDigit w) (some (valueFrom 0 w)) none

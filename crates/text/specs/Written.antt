@@ -1,0 +1,23 @@
+-- A text written over the start of a buffer: the buffer afterwards, every byte of it, and the bytes used.
+use mathlib.Core.Path.{_≡_}
+use mathlib.Core.List.{List, _++_}
+use Prim.Native.Nat.{ℕ, _+_}
+use lib.ListN.{length, take, drop}
+
+-- s with the text over its first bytes, the rest as it was
+abbrev pub over : List ℕ → List ℕ → List ℕ
+over text s = text ++ drop (length text) s
+
+-- a writer's answer `used`, and its buffer afterwards
+pub record Written (text before after : List ℕ) (r : ℕ) : Type 0 where
+  pub used : r ≡ length text
+  pub bytes : after ≡ over text before
+
+-- s with the text over its bytes from the place `at` on
+abbrev pub overAt : ℕ → List ℕ → List ℕ → List ℕ
+overAt at text s = take at s ++ over text (drop at s)
+
+-- the same where the writer is told the place, and answers with the next one
+pub record WrittenAt (at : ℕ) (text before after : List ℕ) (r : ℕ) : Type 0 where
+  pub next : r ≡ at + length text
+  pub bytes : after ≡ overAt at text before

@@ -1,0 +1,84 @@
+-- Document 01, "Boards to try": the lengths, needed rows and tops of one net, from row 10 to row 14 on a board with one track.
+-- Assumes nothing.
+use Prim.Native.Nat.{ℕ, _≤_}
+use mathlib.Core.Path.{_≡_, refl}
+use mathlib.Core.Logic.{_↔_}
+use native.Mathlib.Omega.{arith}
+use Rattle.board.specs.declared.Board.{Board}
+use Rattle.board.specs.declared.Net.{Net}
+use Rattle.board.specs.declared.Shape.{Shape}
+use Rattle.board.specs.declared.Shape.the-variants.{Stretched}
+use Rattle.board.specs.Length.{width, upper, lower, span, plainLength, lengthOf, Allowed, shortest, needed}
+use Rattle.board.specs.Placement.{covered, Legal, firstTop, lastTop}
+use Rattle.board.proofs.ShortestShape.{none-allowed, none-below-plain}
+use Rattle.board.proofs.Tops.{atTop, legal-in-tops}
+
+abbrev pub boardOf : ℕ → Board
+boardOf rows = record { rows = rows; tracks = 1 }
+
+abbrev pub netOf : ℕ → ℕ → Net
+netOf least most = record { number = 1; left = record { 0 = 10 }; right = record { 0 = 14 }; min = least; max = most }
+
+-- the shortest allowed length of the net is l, with stretch e and n needed rows, and its tops there are the rows `first` to `last`
+pub record Tried (board : Board) (net : Net) (l e n first last : ℕ) : Type 0 where
+  pub shape : shortest board net ≡ Stretched e
+  pub length-is : lengthOf board net (shortest board net) ≡ l
+  pub allowed : Allowed board net (shortest board net)
+  pub needed-is : needed board net ≡ n
+  pub tops : (top : ℕ) → Legal board (atTop board net top) ↔ ((first ≤ top) × (top ≤ last))
+
+tried : {board : Board} {net : Net} {l e n first last : ℕ} → shortest board net ≡ Stretched e →
+    lengthOf board net (shortest board net) ≡ l → (net .min ≤ l) × (l ≤ net .max) → needed board net ≡ n →
+    firstTop net (shortest board net) ≡ first → lastTop board net (shortest board net) ≡ last → Tried board net l e n first last
+tried {board} {net} s k b n f t =
+    let a : Allowed board net (shortest board net) = omega arith in
+    record {
+      shape = s;
+      length-is = k;
+      allowed = a;
+      needed-is = n;
+      tops = λ top. (
+        λ l. let i = legal-in-tops board (atTop board net top) .0 l in omega (arith, i),
+        λ h. legal-in-tops board (atTop board net top) .1 (record { allowed = a; from-first = omega arith; to-last = omega arith }),
+      );
+    }
+
+-- min = max = 23 gives e = 7, n = 12 and eight tops, 3 to 10
+pub rows-21 : Tried (boardOf 21) (netOf 23 23) 23 7 12 3 10
+unfolding width upper lower span plainLength shortest needed covered firstTop lastTop
+rows-21 = tried refl refl (omega arith) refl refl refl
+
+-- 20 rows give seven
+pub rows-20 : Tried (boardOf 20) (netOf 23 23) 23 7 12 3 9
+unfolding width upper lower span plainLength shortest needed covered firstTop lastTop
+rows-20 = tried refl refl (omega arith) refl refl refl
+
+-- 14 rows one
+pub rows-14 : Tried (boardOf 14) (netOf 23 23) 23 7 12 3 3
+unfolding width upper lower span plainLength shortest needed covered firstTop lastTop
+rows-14 = tried refl refl (omega arith) refl refl refl
+
+-- min 22 with max 23 gives 23
+pub min-22 : Tried (boardOf 21) (netOf 22 23) 23 7 12 3 10
+unfolding width upper lower span plainLength shortest needed covered firstTop lastTop
+min-22 = tried refl refl (omega arith) refl refl refl
+
+-- min 8 with max 9 gives e = 0
+pub min-8 : Tried (boardOf 21) (netOf 8 9) 9 0 5 10 10
+unfolding width upper lower span plainLength shortest needed covered firstTop lastTop
+min-8 = tried refl refl (omega arith) refl refl refl
+
+-- min 22 with max 22 has no allowed length
+pub max-22 : (s : Shape) → Allowed (boardOf 21) (netOf 22 22) s → ⊥
+unfolding width upper lower span plainLength shortest
+max-22 = none-allowed (boardOf 21) (netOf 22 22) .0 (omega arith)
+
+-- nor has min 8 with max 8
+pub max-8 : (s : Shape) → Allowed (boardOf 21) (netOf 8 8) s → ⊥
+unfolding width upper lower span plainLength shortest
+max-8 = none-allowed (boardOf 21) (netOf 8 8) .0 (omega arith)
+
+-- nor has max 6, whatever min, as D = 7
+pub max-6 : (least : ℕ) (s : Shape) → Allowed (boardOf 21) (netOf least 6) s → ⊥
+unfolding width upper lower span plainLength
+max-6 least = none-below-plain (boardOf 21) (netOf least 6) (omega arith)

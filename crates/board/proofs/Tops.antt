@@ -1,0 +1,117 @@
+-- The top rows of a net in a shape are those from `firstTop` to `lastTop`, and a placement at any allowed length holds one at the
+-- shortest. Assumes nothing.
+use Prim.Native.Nat.{ℕ, _+_, _-_, _≤_, _<_, max}
+use mathlib.Core.Path.{_≡_, refl}
+use mathlib.Core.Logic.{_↔_}
+use native.Mathlib.Omega.{arith}
+use Rattle.board.specs.declared.Board.{Board}
+use Rattle.board.specs.declared.Net.{Net}
+use Rattle.board.specs.declared.Shape.{Shape}
+use Rattle.board.specs.Length.{upper, extra, Allowed, shortest, needed}
+use Rattle.board.specs.Job.{Job}
+use Rattle.board.specs.Placement.{covered, Placement, bottom, Legal, firstTop, lastTop, Clear}
+use Rattle.board.specs.Accepted.{NetInRange, AcceptedNet}
+use Rattle.board.proofs.ShortestShape.{span-add, shortest-shorter, needed-covered, fixed-rows}
+
+-- the length of p is allowed, and its top row is from `firstTop` to `lastTop`
+pub record InTops (board : Board) (p : Placement) : Type 0 where
+  pub allowed : Allowed board (p .net) (p .shape)
+  pub from-first : firstTop (p .net) (p .shape) ≤ p .top
+  pub to-last : p .top ≤ lastTop board (p .net) (p .shape)
+
+legal-tops : (board : Board) (p : Placement) → Legal board p → InTops board p
+unfolding firstTop lastTop covered
+legal-tops board p l =
+    let e = span-add (p .net) in
+    record { allowed = l .allowed; from-first = omega arith; to-last = omega arith }
+
+tops-legal : (board : Board) (p : Placement) → InTops board p → Legal board p
+unfolding firstTop lastTop covered
+tops-legal board p i =
+    let e = span-add (p .net) in
+    record { allowed = i .allowed; from-one = omega arith; over-upper = omega arith; over-lower = omega arith; to-last = omega arith }
+
+-- the placements of document 01 are those
+pub legal-in-tops : (board : Board) (p : Placement) → Legal board p ↔ InTops board p
+legal-in-tops board p = (legal-tops board p, tops-legal board p)
+
+-- the first top is a row, whatever the stretch
+pub first-top-one : (n : Net) (s : Shape) → 1 ≤ firstTop n s
+unfolding firstTop
+first-top-one n s = omega arith
+
+-- a placement with its top at most the last one ends in row H, at the latest
+pub last-top-room : (board : Board) (n : Net) (s : Shape) → covered n s ≤ board .rows → lastTop board n s + covered n s ≤ board .rows + 1
+unfolding lastTop
+last-top-room board n s h = omega arith
+
+-- where a net fits into the rows of the board it has a top
+pub some-top : (board : Board) (n : Net) (s : Shape) → NetInRange board n → covered n s ≤ board .rows → firstTop n s ≤ lastTop board n s
+unfolding firstTop lastTop covered
+some-top board n s r h = let f = fixed-rows board n r in let e = span-add n in omega arith
+
+-- and where it does not it has none
+pub no-top : (board : Board) (n : Net) (s : Shape) → board .rows < covered n s → lastTop board n s ≡ 0
+unfolding lastTop
+no-top board n s h = omega arith
+
+-- a top row is a row of the board, and leaves room for the rows covered
+pub record TopInRange (board : Board) (n : Net) (s : Shape) (top : ℕ) : Type 0 where
+  pub from-one : 1 ≤ top
+  pub to-rows : top ≤ board .rows
+  pub room : top + covered n s ≤ board .rows + 1
+
+pub top-range : (board : Board) (n : Net) (s : Shape) (top : ℕ) → firstTop n s ≤ top → top ≤ lastTop board n s → TopInRange board n s top
+unfolding firstTop lastTop covered
+top-range board n s top a b = record { from-one = omega arith; to-rows = omega arith; room = omega arith }
+
+-- the row below a placement
+pub bottom-covered : (p : Placement) → bottom p + 1 ≡ p .top + covered (p .net) (p .shape)
+unfolding covered
+bottom-covered p = omega arith
+
+-- an accepted net is allowed in its shortest shape
+pub accepted-shortest : (board : Board) (n : Net) → AcceptedNet board n → Allowed board n (shortest board n)
+accepted-shortest board n a = shortest-shorter board n (a .some-shape) (a .some-length) .allowed
+
+-- a placement of a net in its shortest shape
+abbrev pub atTop : Board → Net → ℕ → Placement
+atTop board n top = record { net = n; shape = shortest board n; top = top }
+
+-- it covers the net's needed rows
+pub at-top-bottom : (board : Board) (n : Net) (top : ℕ) → bottom (atTop board n top) + 1 ≡ top + needed board n
+at-top-bottom board n top = omega (arith, bottom-covered (atTop board n top), needed-covered board n)
+
+-- an accepted net can be placed at each of its tops
+pub accepted-legal : (board : Board) (n : Net) (top : ℕ) → AcceptedNet board n →
+    firstTop n (shortest board n) ≤ top → top ≤ lastTop board n (shortest board n) → Legal board (atTop board n top)
+accepted-legal board n top a b c =
+    tops-legal board (atTop board n top) (record { allowed = accepted-shortest board n a; from-first = b; to-last = c })
+
+-- q is a placement of p's net at its shortest allowed length, within the rows of p, and clear on every track where p is
+pub record Shrunk (board : Board) (p q : Placement) : Type 0 where
+  pub same-net : q .net ≡ p .net
+  pub at-shortest : q .shape ≡ shortest board (p .net)
+  pub legal : Legal board q
+  pub from-top : p .top ≤ q .top
+  pub to-bottom : bottom q ≤ bottom p
+  pub clear : (job : Job) (t : ℕ) → Clear job t p → Clear job t q
+
+-- p's top is kept where the shortest stretch reaches up to it, and otherwise the top is a − e
+abbrev pub shrunk : Board → Placement → Placement
+shrunk board p = atTop board (p .net) (max (p .top) (upper (p .net) - extra (shortest board (p .net))))
+
+pub shrink : (board : Board) (p : Placement) → Legal board p → Shrunk board p (shrunk board p)
+shrink board p l =
+    let s = shortest-shorter board (p .net) (p .shape) (l .allowed) in
+    let e = span-add (p .net) in
+    let down : p .top ≤ shrunk board p .top = omega arith in
+    let up : bottom (shrunk board p) ≤ bottom p = omega arith in
+    record {
+      same-net = refl;
+      at-shortest = refl;
+      legal = record { allowed = s .allowed; from-one = omega arith; over-upper = omega arith; over-lower = omega arith; to-last = omega arith };
+      from-top = down;
+      to-bottom = up;
+      clear = λ job t c row a b. c row (omega arith) (omega arith);
+    }

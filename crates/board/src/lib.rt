@@ -1,8 +1,8 @@
 // The board of a channel: its rows, tracks, nets and blocks, and what one net needs of it.
 ghost use mathlib.Core.Path.{_≡_};
 ghost use Prim.Native.Nat.{_≤_};
-ghost use Rattle.board.specs.Length as spec;
-ghost use Rattle.board.specs.Placement.{covered, firstTop, lastTop};
+ghost use Rattle.board.specs.Length as lengths;
+ghost use Rattle.board.specs.Placement as placements;
 ghost use Rattle.board.specs.Accepted.{BoardInRange, NetInRange};
 
 // A row of the channel, 1 to 1,024 from the top. A row's bit and array index are row − 1.
@@ -37,4 +37,137 @@ pub struct Block {
 pub enum Shape {
     Plain,
     Stretched(usize),
+}
+
+// W = 2K + 1, the column of the right pins.
+pub fn width(board: Board) -> usize
+    requires { ⌜ BoardInRange board ⌝ }
+    ensures { λ r. ⌜ r ≡ lengths.width board ⌝ }
+{
+    2 * board.tracks + 1
+}
+
+// a = min(L, R), the upper of the fixed rows.
+pub fn upper(net: Net) -> Row
+    ensures { λ r. ⌜ r .0 ≡ lengths.upper net ⌝ }
+{
+    if net.left.0 <= net.right.0 {
+        net.left
+    } else {
+        net.right
+    }
+}
+
+// b = max(L, R), the lower of the fixed rows.
+pub fn lower(net: Net) -> Row
+    ensures { λ r. ⌜ r .0 ≡ lengths.lower net ⌝ }
+{
+    if net.left.0 <= net.right.0 {
+        net.right
+    } else {
+        net.left
+    }
+}
+
+// |L − R|.
+pub fn span(net: Net) -> usize
+    ensures { λ r. ⌜ r ≡ lengths.span net ⌝ }
+{
+    lower(net).0 - upper(net).0
+}
+
+// D = W + |L − R|, the length of a plain wire.
+pub fn plain_length(board: Board, net: Net) -> usize
+    requires { ⌜ BoardInRange board ⌝ }
+    requires { ⌜ NetInRange board net ⌝ }
+    ensures { λ r. ⌜ r ≡ lengths.plainLength board net ⌝ }
+{
+    width(board) + span(net)
+}
+
+// The rows that a shape covers beside the fixed ones.
+pub fn extra(shape: Shape) -> usize
+    ensures { λ r. ⌜ r ≡ lengths.extra shape ⌝ }
+{
+    match shape {
+        Shape::Plain => 0,
+        Shape::Stretched(e) => e,
+    }
+}
+
+// The length of a net in a shape: D, or D + 2e + 2.
+pub fn length_of(board: Board, net: Net, shape: Shape) -> usize
+    requires { ⌜ BoardInRange board ⌝ }
+    requires { ⌜ NetInRange board net ⌝ }
+    requires { ⌜ lengths.extra shape ≤ 2048 ⌝ }
+    ensures { λ r. ⌜ r ≡ lengths.lengthOf board net shape ⌝ }
+{
+    let plain = plain_length(board, net);
+    match shape {
+        Shape::Plain => plain,
+        Shape::Stretched(e) => plain + 2 * e + 2,
+    }
+}
+
+// The shape of the shortest allowed length: plain if D ≥ min, otherwise with e = ceil((min − D) / 2) − 1.
+pub fn shortest(board: Board, net: Net) -> Shape
+    requires { ⌜ BoardInRange board ⌝ }
+    requires { ⌜ NetInRange board net ⌝ }
+    ensures { λ r. ⌜ r ≡ lengths.shortest board net ⌝ }
+{
+    let plain = plain_length(board, net);
+    if net.min <= plain {
+        Shape::Plain
+    } else {
+        Shape::Stretched((net.min - plain + 1) / 2 - 1)
+    }
+}
+
+// m = b − a + 1 + e, the rows that a net covers in a shape.
+pub fn covered(net: Net, shape: Shape) -> usize
+    requires { ⌜ lengths.lower net ≤ 1024 ⌝ }
+    requires { ⌜ lengths.extra shape ≤ 2048 ⌝ }
+    ensures { λ r. ⌜ r ≡ placements.covered net shape ⌝ }
+{
+    span(net) + 1 + extra(shape)
+}
+
+// n, the needed rows of a net: those that it covers in its shortest shape.
+pub fn needed(board: Board, net: Net) -> usize
+    requires { ⌜ BoardInRange board ⌝ }
+    requires { ⌜ NetInRange board net ⌝ }
+    ensures { λ r. ⌜ r ≡ lengths.needed board net ⌝ }
+{
+    let least = shortest(board, net);
+    covered(net, least)
+}
+
+// What the choice of a track and the sums add for a net.
+pub fn worth(board: Board, net: Net) -> usize
+    requires { ⌜ BoardInRange board ⌝ }
+    requires { ⌜ NetInRange board net ⌝ }
+    ensures { λ r. ⌜ r ≡ lengths.worth board net ⌝ }
+{
+    needed(board, net)
+}
+
+// max(1, a − e), the first top row of a net in a shape.
+pub fn first_top(net: Net, shape: Shape) -> Row
+    ensures { λ r. ⌜ r .0 ≡ placements.firstTop net shape ⌝ }
+{
+    let a = upper(net).0;
+    let e = extra(shape);
+    if a <= e { Row(1) } else { Row(a - e) }
+}
+
+// min(a, H − m + 1), the last top row of a net in a shape that covers no more rows than the board has.
+pub fn last_top(board: Board, net: Net, shape: Shape) -> Row
+    requires { ⌜ BoardInRange board ⌝ }
+    requires { ⌜ NetInRange board net ⌝ }
+    requires { ⌜ placements.covered net shape ≤ board .rows ⌝ }
+    ensures { λ r. ⌜ r .0 ≡ placements.lastTop board net shape ⌝ }
+{
+    let a = upper(net).0;
+    let last = board.rows + 1 - covered(net, shape);
+    if a <= last { Row(a) } else { Row(last) }
 }

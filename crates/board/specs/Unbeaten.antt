@@ -7,12 +7,12 @@ use Rattle.board.specs.Job.{Job}
 use Rattle.board.specs.Placement.{Placement}
 use Rattle.board.specs.Rival.{Rival, rivalSum}
 
--- a track's sum and its wires by rising top row
-pub record TrackPlan : Type 0 where
+-- a filled track: its sum, and its wires by rising top row
+pub record FilledTrack : Type 0 where
   pub sum : ℕ
   pub wires : List Placement
 
-abbrev pub emptyTrack : TrackPlan
+abbrev pub emptyTrack : FilledTrack
 emptyTrack = record { sum = 0; wires = [] }
 
 -- the numbers of the nets of a track
@@ -20,17 +20,17 @@ abbrev pub numbers : List Placement → List ℕ
 numbers ps = map (λ p. p .net .number) ps
 
 -- the numbers of the nets of several tracks
-unfoldable pub numbersOn : List TrackPlan → List ℕ
+unfoldable pub numbersOn : List FilledTrack → List ℕ
 numbersOn [] = []
 numbersOn (tp ∷ tps) = numbers (tp .wires) ++ numbersOn tps
 
 -- on track t no rival sequence has a larger sum than that of tp; the wires of tp are a rival sequence, and their sum is that of tp
-pub record Optimal (job : Job) (earlier : List ℕ) (t : ℕ) (tp : TrackPlan) : Type 0 where
+pub record Optimal (job : Job) (earlier : List ℕ) (t : ℕ) (tp : FilledTrack) : Type 0 where
   pub most : (ps : List Placement) → Rival job earlier t ps → rivalSum (job .board) ps ≤ tp .sum
   pub rival : Rival job earlier t (tp .wires)
   pub sum-is : rivalSum (job .board) (tp .wires) ≡ tp .sum
 
 -- a plan has the job's tracks 1 to K, track i + 1 at place i, and each is optimal with the nets of the tracks before it held
-pub record Unbeaten (job : Job) (plan : List TrackPlan) : Type 0 where
+pub record Unbeaten (job : Job) (plan : List FilledTrack) : Type 0 where
   pub count : length plan ≡ job .board .tracks
   pub each : (i : ℕ) → i < job .board .tracks → Optimal job (numbersOn (take i plan)) (suc i) (getD plan i emptyTrack)

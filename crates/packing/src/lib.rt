@@ -1,0 +1,1 @@
+// The choice of one track: definitions in specs/, the packing theorem in proofs/.

@@ -1,0 +1,29 @@
+-- Document 01, "Choosing a track": after track K the nets without a wire are loose; and the sums of the balance.
+use Prim.Native.Nat.{ℕ, _+_}
+use mathlib.Core.Bool.{cond}
+use mathlib.Core.List.{List, [], _∷_}
+use Rattle.board.specs.declared.Board.{Board}
+use Rattle.board.specs.declared.Net.{Net}
+use Rattle.board.specs.Length.{worth}
+use Rattle.board.specs.Job.{Job}
+use Rattle.board.specs.Unbeaten.{FilledTrack, numbersOn}
+use Rattle.packing.specs.Fits.{isOn}
+
+-- the nets whose numbers are not in `on`
+unfoldable pub without : List ℕ → List Net → List Net
+without on [] = []
+without on (n ∷ ns) = cond (isOn on n) (without on ns) (n ∷ without on ns)
+
+-- the loose nets of a plan
+unfoldable pub looseOf : Job → List FilledTrack → List Net
+looseOf job plan = without (numbersOn plan) (job .nets)
+
+-- what nets are worth together
+unfoldable pub worthSum : Board → List Net → ℕ
+worthSum board [] = 0
+worthSum board (n ∷ ns) = worth board n + worthSum board ns
+
+-- all sums of a plan
+unfoldable pub sumOfTracks : List FilledTrack → ℕ
+sumOfTracks [] = 0
+sumOfTracks (tp ∷ tps) = tp .sum + sumOfTracks tps

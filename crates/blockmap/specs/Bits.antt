@@ -1,0 +1,11 @@
+-- Document 01, "Board and grid": "Blocked rows are kept one bit a row, 64 rows to a word."
+use Prim.Native.Nat.{ℕ, zero, suc, _/_, _%_, _^_}
+use mathlib.Core.Bool.{Bool, false}
+use mathlib.Core.List.{List}
+use lib.ListN.{getD}
+use lib.Dec.{eqb}
+
+-- one bit a row, 64 rows to a word: row i + 1 has bit i % 64 of word i / 64. There is no row 0
+unfoldable pub isSet : List ℕ → ℕ → Bool
+isSet words zero = false
+isSet words (suc i) = eqb (getD words (i / 64) 0 / 2 ^ (i % 64) % 2) 1

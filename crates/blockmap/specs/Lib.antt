@@ -1,0 +1,2 @@
+-- The blocked rows of a track as bits.
+pub mod Bits

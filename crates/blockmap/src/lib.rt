@@ -1,0 +1,75 @@
+// The blocked rows of a track, one bit a row.
+ghost use mathlib.Core.Path.{_≡_};
+ghost use mathlib.Core.Bool.{_&&_, _||_, false};
+ghost use Prim.Native.Nat.{ℕ, _≤_};
+ghost use lib.Dec.{eqb, leb};
+ghost use lib.ListN.{replicate};
+ghost use Rattle.board.specs.Job.{closes};
+ghost use Rattle.blockmap.specs.Bits.{isSet};
+use board::Block;
+use board::Row;
+use board::Track;
+
+// The blocked rows of one track: one bit a row, 64 rows to a word. Shift and mask set and test a row's bit, whose index is row − 1.
+pub struct BlockMap {
+    pub words: [u64; 16],
+}
+
+// No row is blocked.
+pub fn no_rows() -> BlockMap
+    ensures { λ r. ⌜ (r .words ≡ replicate 16 0) × ((k : ℕ) → isSet (r .words) k ≡ false) ⌝ }
+{
+    let words = [0u64; 16];
+    BlockMap { words }
+}
+
+// The map with one more blocked row.
+pub fn with_row(map: BlockMap, row: Row) -> BlockMap
+    requires { ⌜ (1 ≤ row .0) × (row .0 ≤ 1024) ⌝ }
+    ensures { λ r. ⌜ ((k : ℕ) → isSet (r .words) k ≡ (eqb k (row .0) || isSet (map .words) k)) ⌝ }
+{
+    let number = row.0;
+    let at = number - 1;
+    let w = at / 64;
+    let mut next = map;
+    let word = next.words[w];
+    next.words[w] = word | (1u64 << (at % 64));
+    next
+}
+
+// Whether a row is blocked.
+pub fn is_blocked(map: BlockMap, row: Row) -> bool
+    requires { ⌜ (1 ≤ row .0) × (row .0 ≤ 1024) ⌝ }
+    ensures { λ r. ⌜ r ≡ isSet (map .words) (row .0) ⌝ }
+{
+    let number = row.0;
+    let at = number - 1;
+    let w = at / 64;
+    let word = map.words[w];
+    (word >> (at % 64)) & 1 == 1
+}
+
+// The map with the rows of a block blocked, its first and its last row included.
+pub fn with_block(map: BlockMap, block: Block) -> BlockMap
+    requires { ⌜ (1 ≤ block .first .0) × (block .first .0 ≤ block .last .0) × (block .last .0 ≤ 1024) ⌝ }
+    ensures { λ r. ⌜ ((k : ℕ) → isSet (r .words) k ≡ (leb (block .first .0) k && leb k (block .last .0) || isSet (map .words) k)) ⌝ }
+{
+    let mut next = map;
+    let first = block.first.0;
+    let end = block.last.0 + 1;
+    for row in first..end {
+        next = with_row(next, Row(row));
+    }
+    next
+}
+
+// The map of a track with one more block: a block of another track leaves it as it is.
+pub fn with_block_on(map: BlockMap, track: Track, block: Block) -> BlockMap
+    requires { ⌜ (1 ≤ block .first .0) × (block .first .0 ≤ block .last .0) × (block .last .0 ≤ 1024) ⌝ }
+    ensures { λ r. ⌜ ((k : ℕ) → isSet (r .words) k ≡ (closes block (track .0) k || isSet (map .words) k)) ⌝ }
+{
+    if block.track.0 == track.0 {
+        return with_block(map, block);
+    }
+    map
+}

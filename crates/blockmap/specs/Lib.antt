@@ -1,2 +1,3 @@
--- The blocked rows of a track as bits.
+-- The blocked rows of a track as bits, and the top rows that are clear of them.
 pub mod Bits
+pub mod Clear

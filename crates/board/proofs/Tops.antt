@@ -48,12 +48,20 @@ last-top-room board n s h = omega arith
 -- where a net fits into the rows of the board it has a top
 pub some-top : (board : Board) (n : Net) (s : Shape) → NetInRange board n → covered n s ≤ board .rows → firstTop n s ≤ lastTop board n s
 unfolding firstTop lastTop covered
-some-top board n s r h = let f = fixed-rows board n r in let e = span-add n in omega arith
+some-top board n s r h =
+    let f = fixed-rows board n r in
+    let e = span-add n in
+    omega arith
 
 -- and where it does not it has none
-pub no-top : (board : Board) (n : Net) (s : Shape) → board .rows < covered n s → lastTop board n s ≡ 0
-unfolding lastTop
+pub no-top : (board : Board) (n : Net) (s : Shape) → board .rows < covered n s → lastTop board n s < firstTop n s
+unfolding firstTop lastTop
 no-top board n s h = omega arith
+
+-- so a placement fits into the rows of the board
+pub legal-fits : (board : Board) (p : Placement) → Legal board p → covered (p .net) (p .shape) ≤ board .rows
+unfolding covered
+legal-fits board p l = omega arith
 
 -- a top row is a row of the board, and leaves room for the rows covered
 pub record TopInRange (board : Board) (n : Net) (s : Shape) (top : ℕ) : Type 0 where
@@ -73,6 +81,12 @@ bottom-covered p = omega arith
 -- an accepted net is allowed in its shortest shape
 pub accepted-shortest : (board : Board) (n : Net) → AcceptedNet board n → Allowed board n (shortest board n)
 accepted-shortest board n a = shortest-shorter board n (a .some-shape) (a .some-length) .allowed
+
+-- and fits into the rows of the board
+pub accepted-fits : (board : Board) (n : Net) → AcceptedNet board n → covered n (shortest board n) ≤ board .rows
+accepted-fits board n a =
+    let e = needed-covered board n in
+    omega arith
 
 -- a placement of a net in its shortest shape
 abbrev pub atTop : Board → Net → ℕ → Placement

@@ -119,7 +119,9 @@ pub fn shortest(board: Board, net: Net) -> Shape
     if net.min <= plain {
         Shape::Plain
     } else {
-        Shape::Stretched((net.min - plain + 1) / 2 - 1)
+        let x = net.min - plain;
+        let e = (x + 1) / 2 - 1;
+        Shape::Stretched(e)
     }
 }
 

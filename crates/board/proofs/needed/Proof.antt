@@ -1,9 +1,9 @@
 -- `board::needed` meets its contract. Assumes nothing.
 use native.Mathlib.Omega.{arith}
-use mathlib.Core.Path.{ap, sym, _∙_}
-use Rattle.board.specs.Length.{extra}
+use mathlib.Core.Path.{ap}
+use Rattle.board.specs.Length.{extra, needed}
 use Rattle.board.specs.Placement.{covered}
-use Rattle.board.proofs.ShortestShape.{fixed-rows, stretch-range, needed-covered}
+use Rattle.board.proofs.ShortestShape.{fixed-rows, stretch-range}
 use borrow.Author.Needs.{needs}
 use Rattle.board.proofs.needed.Statement.{statement}
 use Rattle.board.proofs.needed.Tie as tie
@@ -19,9 +19,8 @@ covered-requires c κs =
     omega (arith, ap extra (c .shortest .ensures))
 
 returns : tie.Need-returns
-returns c =
-    let a = c .before .before .args in
-    c .covered .ensures ∙ ap (covered (a .net)) (c .before .shortest .ensures) ∙ sym (needed-covered (a .board) (a .net))
+unfolding needed covered
+returns c = omega (arith, ap extra (c .before .shortest .ensures))
 
 pub needed-spec : {M : Type 1} → statement M
 needed-spec = tie.close (tie.spec shortest-requires covered-requires returns)

@@ -10,14 +10,14 @@ use Rattle.board.proofs.shortest.Tie as tie
 plain-length-requires : tie.Need-plain-length-requires
 plain-length-requires c κs = search needs
 
-sub-t6 : tie.Need-sub-t6
-sub-t6 c = search needs
+sub-x : tie.Need-sub-x
+sub-x c = search needs
 
-add-t7 : tie.Need-add-t7
-add-t7 c = search needs
+add-e : tie.Need-add-e
+add-e c = search needs
 
-sub-t9 : tie.Need-sub-t9
-sub-t9 c = search needs
+sub-e : tie.Need-sub-e
+sub-e c = search needs
 
 returns : tie.Need-returns
 unfolding shortest
@@ -35,4 +35,4 @@ returns-2 c =
     rw (s .plain-length .ensures, lt-leb _ _ h)
 
 pub shortest-spec : {M : Type 1} → statement M
-shortest-spec = tie.close (tie.spec plain-length-requires sub-t6 add-t7 sub-t9 returns returns-2)
+shortest-spec = tie.close (tie.spec plain-length-requires sub-x add-e sub-e returns returns-2)

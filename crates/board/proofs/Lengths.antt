@@ -9,9 +9,9 @@ use Rattle.board.specs.declared.Net.{Net}
 use Rattle.board.specs.declared.Shape.{Shape}
 use Rattle.board.specs.declared.Shape.the-variants.{Stretched}
 use Rattle.board.specs.Length.{width, upper, lower, span, plainLength, lengthOf, Allowed, shortest, needed}
-use Rattle.board.specs.Placement.{covered, Legal, firstTop, lastTop}
+use Rattle.board.specs.Placement.{covered, Legal, firstTop, lastTop, shortestAt}
 use Rattle.board.proofs.ShortestShape.{none-allowed, none-below-plain}
-use Rattle.board.proofs.Tops.{atTop, legal-in-tops}
+use Rattle.board.proofs.Tops.{legal-in-tops}
 
 abbrev pub boardOf : ℕ → Board
 boardOf rows = record { rows = rows; tracks = 1 }
@@ -25,7 +25,7 @@ pub record Tried (board : Board) (net : Net) (l e n first last : ℕ) : Type 0 w
   pub length-is : lengthOf board net (shortest board net) ≡ l
   pub allowed : Allowed board net (shortest board net)
   pub needed-is : needed board net ≡ n
-  pub tops : (top : ℕ) → Legal board (atTop board net top) ↔ ((first ≤ top) × (top ≤ last))
+  pub tops : (top : ℕ) → Legal board (shortestAt board net top) ↔ ((first ≤ top) × (top ≤ last))
 
 tried : {board : Board} {net : Net} {l e n first last : ℕ} → shortest board net ≡ Stretched e →
     lengthOf board net (shortest board net) ≡ l → (net .min ≤ l) × (l ≤ net .max) → needed board net ≡ n →
@@ -38,8 +38,8 @@ tried {board} {net} s k b n f t =
       allowed = a;
       needed-is = n;
       tops = λ top. (
-        λ l. let i = legal-in-tops board (atTop board net top) .0 l in omega (arith, i),
-        λ h. legal-in-tops board (atTop board net top) .1 (record { allowed = a; from-first = omega arith; to-last = omega arith }),
+        λ l. let i = legal-in-tops board (shortestAt board net top) .0 l in omega (arith, i),
+        λ h. legal-in-tops board (shortestAt board net top) .1 (record { allowed = a; from-first = omega arith; to-last = omega arith }),
       );
     }
 

@@ -9,7 +9,7 @@ use Rattle.board.specs.declared.Net.{Net}
 use Rattle.board.specs.declared.Shape.{Shape}
 use Rattle.board.specs.Length.{upper, extra, Allowed, shortest, needed}
 use Rattle.board.specs.Job.{Job}
-use Rattle.board.specs.Placement.{covered, Placement, bottom, Legal, firstTop, lastTop, Clear}
+use Rattle.board.specs.Placement.{covered, Placement, shortestAt, bottom, Legal, firstTop, lastTop, Clear}
 use Rattle.board.specs.Accepted.{NetInRange, AcceptedNet}
 use Rattle.board.proofs.ShortestShape.{span-add, shortest-shorter, needed-covered, fixed-rows}
 
@@ -88,19 +88,15 @@ accepted-fits board n a =
     let e = needed-covered board n in
     omega arith
 
--- a placement of a net in its shortest shape
-abbrev pub atTop : Board → Net → ℕ → Placement
-atTop board n top = record { net = n; shape = shortest board n; top = top }
-
--- it covers the net's needed rows
-pub at-top-bottom : (board : Board) (n : Net) (top : ℕ) → bottom (atTop board n top) + 1 ≡ top + needed board n
-at-top-bottom board n top = omega (arith, bottom-covered (atTop board n top), needed-covered board n)
+-- a shortest placement covers the net's needed rows
+pub shortest-bottom : (board : Board) (n : Net) (top : ℕ) → bottom (shortestAt board n top) + 1 ≡ top + needed board n
+shortest-bottom board n top = omega (arith, bottom-covered (shortestAt board n top), needed-covered board n)
 
 -- an accepted net can be placed at each of its tops
 pub accepted-legal : (board : Board) (n : Net) (top : ℕ) → AcceptedNet board n →
-    firstTop n (shortest board n) ≤ top → top ≤ lastTop board n (shortest board n) → Legal board (atTop board n top)
+    firstTop n (shortest board n) ≤ top → top ≤ lastTop board n (shortest board n) → Legal board (shortestAt board n top)
 accepted-legal board n top a b c =
-    tops-legal board (atTop board n top) (record { allowed = accepted-shortest board n a; from-first = b; to-last = c })
+    tops-legal board (shortestAt board n top) (record { allowed = accepted-shortest board n a; from-first = b; to-last = c })
 
 -- q is a placement of p's net at its shortest allowed length, within the rows of p, and clear on every track where p is
 pub record Shrunk (board : Board) (p q : Placement) : Type 0 where
@@ -113,7 +109,7 @@ pub record Shrunk (board : Board) (p q : Placement) : Type 0 where
 
 -- p's top is kept where the shortest stretch reaches up to it, and otherwise the top is a − e
 abbrev pub shrunk : Board → Placement → Placement
-shrunk board p = atTop board (p .net) (max (p .top) (upper (p .net) - extra (shortest board (p .net))))
+shrunk board p = shortestAt board (p .net) (max (p .top) (upper (p .net) - extra (shortest board (p .net))))
 
 pub shrink : (board : Board) (p : Placement) → Legal board p → Shrunk board p (shrunk board p)
 shrink board p l =

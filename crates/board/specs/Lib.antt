@@ -6,3 +6,4 @@ pub mod Precedence
 pub mod Rival
 pub mod Unbeaten
 pub mod Accepted
+pub mod Stored

@@ -5,7 +5,7 @@ use mathlib.Core.Bool.{false}
 use Rattle.board.specs.declared.Board.{Board}
 use Rattle.board.specs.declared.Net.{Net}
 use Rattle.board.specs.declared.Shape.{Shape}
-use Rattle.board.specs.Length.{Allowed, extra, upper, lower, span}
+use Rattle.board.specs.Length.{Allowed, shortest, extra, upper, lower, span}
 use Rattle.board.specs.Job.{Job, blocked}
 
 -- m = b − a + 1 + e, the rows that a net covers in a shape
@@ -17,6 +17,10 @@ pub record Placement : Type 0 where
   pub net : Net
   pub shape : Shape
   pub top : ℕ
+
+-- a shortest placement: net n at its shortest length, with its top at row j
+abbrev pub shortestAt : Board → Net → ℕ → Placement
+shortestAt board n j = record { net = n; shape = shortest board n; top = j }
 
 -- s, the lowest row that a placement covers
 abbrev pub bottom : Placement → ℕ

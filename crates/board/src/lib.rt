@@ -33,6 +33,15 @@ pub struct Block {
     pub last: Row,
 }
 
+// A job by value: its nets and blocks stand in the first `nnets` and `nblocks` slots, every other slot is empty.
+pub struct StoredJob {
+    pub board: Board,
+    pub nnets: usize,
+    pub nblocks: usize,
+    pub nets: [Net; 512],
+    pub blocks: [Block; 256],
+}
+
 // How a wire is drawn: plain, or with a hairpin of stretch e.
 pub enum Shape {
     Plain,

@@ -16,10 +16,10 @@ use Rattle.lists.proofs.Laws.{Each-map, Each-at}
 use Rattle.board.specs.declared.Net.{Net}
 use Rattle.board.specs.Length.{Allowed, shortest, needed, worth}
 use Rattle.board.specs.Job.{Job}
-use Rattle.board.specs.Placement.{Placement}
+use Rattle.board.specs.Placement.{Placement, shortestAt}
 use Rattle.board.specs.Rival.{Rival, rivalSum}
 use Rattle.board.proofs.ShortestShape.{needed-pos}
-use Rattle.packing.specs.Fits.{shortestAt, fitsAt}
+use Rattle.packing.specs.Fits.{fitsAt}
 use Rattle.packing.specs.Best.{sumWith, bestAt, table, bestLast, best}
 use Rattle.packing.specs.Walk.{reaches, choice, walk, choiceAt, walkFrom}
 use Rattle.packing.specs.Step.{LargestSum, ReachesBest, WalkStep, goes-on, takes}
@@ -91,7 +91,7 @@ module _ (job : Job) (earlier : List ℕ) (t : ℕ) where
   unfolding walk
   last-none k c = rw (c, walk)
 
-  last-some : (k : ℕ) (n : Net) → choice job earlier t k ≡ some n → Last (suc k) ≡ shortestAt job n (job .board .rows - k) ∷ walk job earlier t k (needed (job .board) n - 1)
+  last-some : (k : ℕ) (n : Net) → choice job earlier t k ≡ some n → Last (suc k) ≡ shortestAt (job .board) n (job .board .rows - k) ∷ walk job earlier t k (needed (job .board) n - 1)
   unfolding walk
   last-some k n c = rw (c, walk)
 
@@ -106,7 +106,7 @@ module _ (job : Job) (earlier : List ℕ) (t : ℕ) where
       let e′ : job .board .rows - j ≡ job .board .rows + 1 - (j + 1) = omega arith in
       ap Last e ∙ last-none (job .board .rows - j) c ∙ ap Last e′
 
-  pub walk-some : (j : ℕ) (n : Net) → 1 ≤ j → j ≤ job .board .rows → Choice j ≡ some n → From j ≡ shortestAt job n j ∷ From (j + needed (job .board) n)
+  pub walk-some : (j : ℕ) (n : Net) → 1 ≤ j → j ≤ job .board .rows → Choice j ≡ some n → From j ≡ shortestAt (job .board) n j ∷ From (j + needed (job .board) n)
   unfolding choiceAt walkFrom
   walk-some j n l h c =
       let p = needed-pos (job .board) n in

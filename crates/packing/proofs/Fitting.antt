@@ -12,11 +12,12 @@ use Rattle.lists.proofs.Laws.{allOf-at, allOf-of, anyOf-mem, mem-anyOf}
 use Rattle.board.specs.declared.Net.{Net}
 use Rattle.board.specs.Length.{Allowed, shortest, needed}
 use Rattle.board.specs.Job.{Job, blocked}
-use Rattle.board.specs.Placement.{Placement, covered, firstTop, lastTop, bottom}
+use Rattle.board.specs.Placement.{Placement, shortestAt, covered, firstTop, lastTop, bottom}
 use Rattle.board.specs.Precedence.{Precedes, Eligible}
 use Rattle.board.specs.Rival.{Placeable}
 use Rattle.board.proofs.ShortestShape.{span-add}
-use Rattle.packing.specs.Fits.{shortestAt, isOn, isBefore, isEligible, clearRows, fitsAt}
+use Rattle.board.proofs.Tops.{shortest-bottom}
+use Rattle.packing.specs.Fits.{isOn, isBefore, isEligible, clearRows, fitsAt}
 
 -- ---- the scan of a placement's rows
 pub clear-rows : (job : Job) (t row m : ℕ) → clearRows job t row m ≡ true → (r : ℕ) → row ≤ r → r < row + m → blocked job t r ≡ false
@@ -79,10 +80,6 @@ module _ (job : Job) (earlier : List ℕ) (n : Net) where
 
 -- ---- the test and the placement
 module _ (job : Job) (earlier : List ℕ) (t : ℕ) (n : Net) (j : ℕ) where
-  pub bottom-needed : bottom (shortestAt job n j) + 1 ≡ j + needed (job .board) n
-  unfolding needed
-  bottom-needed = omega arith
-
   -- the parts of a passed test
   pub record Fits : Type 0 where
     pub of-eligible : isEligible job earlier n ≡ true
@@ -108,11 +105,11 @@ module _ (job : Job) (earlier : List ℕ) (t : ℕ) (n : Net) (j : ℕ) where
   fits-within h = let f = fits-parts h in omega arith
 
   -- a net that passes the test may stand there
-  pub fits-placeable : List·Memᴰ n (job .nets) → Allowed (job .board) n (shortest (job .board) n) → fitsAt job earlier t n j ≡ true → Placeable job earlier t (shortestAt job n j)
+  pub fits-placeable : List·Memᴰ n (job .nets) → Allowed (job .board) n (shortest (job .board) n) → fitsAt job earlier t n j ≡ true → Placeable job earlier t (shortestAt (job .board) n j)
   unfolding firstTop lastTop covered needed
   fits-placeable i a h =
       let f = fits-parts h in
-      let e = bottom-needed in
+      let e = shortest-bottom (job .board) n j in
       let s = span-add n in
       record {
         of-job = i;
@@ -122,10 +119,10 @@ module _ (job : Job) (earlier : List ℕ) (t : ℕ) (n : Net) (j : ℕ) where
       }
 
   -- a shortest placement that may stand there passes the test
-  pub placeable-fits : Placeable job earlier t (shortestAt job n j) → fitsAt job earlier t n j ≡ true
+  pub placeable-fits : Placeable job earlier t (shortestAt (job .board) n j) → fitsAt job earlier t n j ≡ true
   unfolding firstTop lastTop covered needed
   placeable-fits w =
-      let e = bottom-needed in
+      let e = shortest-bottom (job .board) n j in
       let s = span-add n in
       parts-fit (record {
         of-eligible = eligible-is job earlier n (w .eligible);

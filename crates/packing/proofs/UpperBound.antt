@@ -19,10 +19,10 @@ use Rattle.board.specs.Job.{Job}
 use Rattle.board.specs.Placement.{Placement, bottom}
 use Rattle.board.specs.Rival.{Apart, Rival, rivalSum}
 use Rattle.board.proofs.ShortestShape.{needed-pos}
-use Rattle.board.proofs.Tops.{shrink, shrunk}
+use Rattle.board.proofs.Tops.{shortest-bottom, shrink, shrunk}
 use Rattle.packing.specs.Fits.{fitsAt}
 use Rattle.packing.specs.Best.{sumWith, bestAt, table, bestLast, best}
-use Rattle.packing.proofs.Fitting.{placeable-fits, bottom-needed}
+use Rattle.packing.proofs.Fitting.{placeable-fits}
 
 -- placements that rise and share no row stand one below the other
 pub all-below : (p : Placement) (qs : List Placement) → Each (λ q. p .top < q .top) qs → Each (Apart p) qs → Each (λ q. bottom p < q .top) qs
@@ -100,7 +100,7 @@ module _ (job : Job) (earlier : List ℕ) (t : ℕ) where
       let q = shrunk (job .board) p in
       let f = placeable-fits job earlier t (p .net) (q .top)
       (record { of-job = w .of-job; legal = s .legal; clear = s .clear job t (w .clear); eligible = w .eligible }) in
-      let b = bottom-needed job earlier t (p .net) (q .top) in
+      let b = shortest-bottom (job .board) (p .net) (q .top) in
       let m : ℕ = job .board .rows - q .top in
       let row : job .board .rows - m ≡ q .top = omega (arith, s .legal) in
       let here = bestLast-net m (p .net) (w .of-job) (rw row f) (omega (arith, s .legal)) in

@@ -15,13 +15,14 @@ use Rattle.lists.proofs.Laws.{Each-map, firstOf-some, firstOf-none}
 use Rattle.board.specs.declared.Net.{Net}
 use Rattle.board.specs.Length.{Allowed, shortest, needed, worth}
 use Rattle.board.specs.Job.{Job}
-use Rattle.board.specs.Placement.{Placement}
+use Rattle.board.specs.Placement.{Placement, shortestAt}
 use Rattle.board.specs.Rival.{Rival, rivalSum}
 use Rattle.board.proofs.ShortestShape.{needed-pos}
-use Rattle.packing.specs.Fits.{shortestAt, fitsAt}
+use Rattle.board.proofs.Tops.{shortest-bottom}
+use Rattle.packing.specs.Fits.{fitsAt}
 use Rattle.packing.specs.Best.{sumWith, bestAt, table, bestLast}
 use Rattle.packing.specs.Walk.{reaches, choice, walk}
-use Rattle.packing.proofs.Fitting.{fits-placeable, fits-within, bottom-needed}
+use Rattle.packing.proofs.Fitting.{fits-placeable, fits-within}
 use Rattle.packing.proofs.UpperBound.{bestLast-suc, table-at}
 
 module _ (job : Job) (earlier : List ℕ) (t : ℕ) where
@@ -118,12 +119,12 @@ module _ (job : Job) (earlier : List ℕ) (t : ℕ) where
   chosen-within k n c = omega (arith, fits-within job earlier t n (job .board .rows - k) (c .fit))
 
   module _ (allowed : (n : Net) → List·Memᴰ n (job .nets) → Allowed (job .board) n (shortest (job .board) n)) where
-    some-here : (k : ℕ) (n : Net) {ps : List Placement} → Chosen k n → Walked k (needed (job .board) n - 1) ps → Walked (suc k) 0 (shortestAt job n (job .board .rows - k) ∷ ps)
+    some-here : (k : ℕ) (n : Net) {ps : List Placement} → Chosen k n → Walked k (needed (job .board) n - 1) ps → Walked (suc k) 0 (shortestAt (job .board) n (job .board .rows - k) ∷ ps)
     unfolding rivalSum
     some-here k n {ps} c w =
         let i = chosen-within k n c in
         let p = needed-pos (job .board) n in
-        let e = bottom-needed job earlier t n (job .board .rows - k) in
+        let e = shortest-bottom (job .board) n (job .board .rows - k) in
         let q : k - (needed (job .board) n - 1) ≡ suc k - needed (job .board) n = omega arith in
         let b : suc k - 0 ≡ suc k = omega arith in
         record {

@@ -7,11 +7,7 @@ use Rattle.lists.specs.Lists.{anyOf, allOf}
 use Rattle.board.specs.declared.Net.{Net}
 use Rattle.board.specs.Length.{shortest, needed}
 use Rattle.board.specs.Job.{Job, blocked}
-use Rattle.board.specs.Placement.{Placement, firstTop, lastTop}
-
--- a net's shortest placement with its top at row j
-abbrev pub shortestAt : Job → Net → ℕ → Placement
-shortestAt job n j = record { net = n; shape = shortest (job .board) n; top = j }
+use Rattle.board.specs.Placement.{firstTop, lastTop}
 
 -- the net stands on an earlier track, where `earlier` has the numbers of the nets that do
 unfoldable pub isOn : List ℕ → Net → Bool

@@ -7,9 +7,8 @@ use Rattle.board.specs.declared.Net.{Net}
 use Rattle.lists.specs.Lists.{Each}
 use Rattle.board.specs.Length.{shortest, needed, worth}
 use Rattle.board.specs.Job.{Job}
-use Rattle.board.specs.Placement.{Placement}
+use Rattle.board.specs.Placement.{Placement, shortestAt}
 use Rattle.board.specs.Rival.{Placeable, Rival, rivalSum}
-use Rattle.packing.specs.Fits.{shortestAt}
 
 -- v is the largest sum that placements within rows j to H can have: no rival sequence there has more, at whatever lengths, and `wires`
 -- is one of shortest placements that has it
@@ -23,7 +22,7 @@ pub record LargestSum (job : Job) (earlier : List ℕ) (t j : ℕ) (wires : List
 -- with `best` for best(j), net n reaches best(j) with its top at row j
 pub record ReachesBest (job : Job) (earlier : List ℕ) (t : ℕ) (best : ℕ → ℕ) (j : ℕ) (n : Net) : Type 0 where
   pub of-job : List·Memᴰ n (job .nets)
-  pub placeable : Placeable job earlier t (shortestAt job n j)
+  pub placeable : Placeable job earlier t (shortestAt (job .board) n j)
   pub reached : worth (job .board) n + best (j + needed (job .board) n) ≡ best j
 
 -- with `walk` for the wires from a row on: if best(j) = best(j + 1), the walk goes to j + 1; otherwise the net of lowest number that
@@ -32,4 +31,4 @@ pub data WalkStep (job : Job) (earlier : List ℕ) (t : ℕ) (best : ℕ → ℕ
   goes-on : best j ≡ best (j + 1) → walk j ≡ walk (j + 1) → WalkStep job earlier t best walk j
   takes : (n : Net) → (best j ≡ best (j + 1) → ⊥) → ReachesBest job earlier t best j n
       → ((m : Net) → ReachesBest job earlier t best j m → n .number ≤ m .number)
-      → walk j ≡ shortestAt job n j ∷ walk (j + needed (job .board) n) → WalkStep job earlier t best walk j
+      → walk j ≡ shortestAt (job .board) n j ∷ walk (j + needed (job .board) n) → WalkStep job earlier t best walk j

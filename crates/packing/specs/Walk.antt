@@ -8,8 +8,8 @@ use Rattle.lists.specs.Lists.{firstOf}
 use Rattle.board.specs.declared.Net.{Net}
 use Rattle.board.specs.Length.{needed}
 use Rattle.board.specs.Job.{Job}
-use Rattle.board.specs.Placement.{Placement}
-use Rattle.packing.specs.Fits.{shortestAt, fitsAt}
+use Rattle.board.specs.Placement.{Placement, shortestAt}
+use Rattle.packing.specs.Fits.{fitsAt}
 use Rattle.packing.specs.Best.{sumWith, table, bestLast}
 
 module _ (job : Job) (earlier : List ℕ) (t : ℕ) where
@@ -30,7 +30,7 @@ module _ (job : Job) (earlier : List ℕ) (t : ℕ) where
   walk (suc k) zero =
       elim (choice k) [
         | none ↦ walk k 0
-        | some n ↦ shortestAt job n (job .board .rows - k) ∷ walk k (needed (job .board) n - 1)
+        | some n ↦ shortestAt (job .board) n (job .board .rows - k) ∷ walk k (needed (job .board) n - 1)
       ]
 
   -- the choice for row j, and the wires that the walk takes from row j on

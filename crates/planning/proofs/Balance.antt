@@ -23,7 +23,7 @@ use Rattle.packing.specs.Walk.{wiresOf}
 use Rattle.packing.proofs.Fitting.{not-on}
 use Rattle.planning.specs.Plan.{filledTrack, planFrom, planOf}
 use Rattle.planning.specs.Loose.{without, looseOf, worthSum, sumOfTracks}
-use Rattle.planning.proofs.PlanUnbeaten.{accepted-shortest, track-optimal}
+use Rattle.planning.proofs.PlanUnbeaten.{all-allowed, track-optimal}
 
 -- ---- taking one net out
 pub without-same : (a b : List ℕ) (ns : List Net) → ((n : Net) → isOn a n ≡ isOn b n) → without a ns ≡ without b ns
@@ -150,5 +150,5 @@ without-none (n ∷ ns) = ap (λ l. n ∷ l) (without-none ns)
 pub sums-add-up : (job : Job) → Accepted job → worthSum (job .board) (job .nets) ≡ sumOfTracks (planOf job) + worthSum (job .board) (looseOf job (planOf job))
 unfolding planOf looseOf
 sums-add-up job a =
-    let p = plan-out job (a .numbers-rise) (accepted-shortest job a) (job .board .tracks) 1 [] in
+    let p = plan-out job (a .numbers-rise) (all-allowed job a) (job .board .tracks) 1 [] in
     rw (without-none (job .nets)) at p

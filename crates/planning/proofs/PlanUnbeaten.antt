@@ -10,17 +10,16 @@ use Rattle.board.specs.Length.{Allowed, shortest}
 use Rattle.board.specs.Job.{Job}
 use Rattle.board.specs.Unbeaten.{emptyTrack, numbers, numbersOn, Optimal, Unbeaten}
 use Rattle.board.specs.Accepted.{Accepted}
-use Rattle.board.proofs.ShortestShape.{shortest-shorter}
+use Rattle.board.proofs.Tops.{accepted-shortest}
 use Rattle.packing.specs.Best.{best}
 use Rattle.packing.specs.Walk.{wiresOf}
 use Rattle.packing.proofs.UpperBound.{rival-le-best}
 use Rattle.packing.proofs.ByRow.{best-largest}
 use Rattle.planning.specs.Plan.{filledTrack, planFrom, planOf}
 
-pub accepted-shortest : (job : Job) → Accepted job → (n : Net) → List·Memᴰ n (job .nets) → Allowed (job .board) n (shortest (job .board) n)
-accepted-shortest job a n i =
-    let c = a .nets-each n i in
-    shortest-shorter (job .board) n (c .some-shape) (c .some-length) .allowed
+-- every net of an accepted job is allowed in its shortest shape
+pub all-allowed : (job : Job) → Accepted job → (n : Net) → List·Memᴰ n (job .nets) → Allowed (job .board) n (shortest (job .board) n)
+all-allowed job a n i = accepted-shortest (job .board) n (a .nets-each n i)
 
 module _ (job : Job) (allowed : (n : Net) → List·Memᴰ n (job .nets) → Allowed (job .board) n (shortest (job .board) n)) where
   pub track-optimal : (earlier : List ℕ) (t : ℕ) → Optimal job earlier t (filledTrack job earlier t)
@@ -50,7 +49,7 @@ module _ (job : Job) (allowed : (n : Net) → List·Memᴰ n (job .nets) → All
 pub plan-unbeaten : (job : Job) → Accepted job → Unbeaten job (planOf job)
 unfolding planOf
 plan-unbeaten job a =
-    let allowed = accepted-shortest job a in
+    let allowed = all-allowed job a in
     record {
       count = plan-length job allowed (job .board .tracks) 1 [];
       each = λ i h. let e : 1 + i ≡ suc i = omega arith in rw e at (plan-each job allowed (job .board .tracks) 1 [] i h);

@@ -1,0 +1,2 @@
+-- The candidates for a track, held against the model.
+pub mod Gathered

@@ -1,0 +1,2 @@
+-- The plan of a track by value.
+pub mod TrackPlans

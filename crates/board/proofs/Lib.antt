@@ -1,4 +1,5 @@
--- The laws of the definitions in specs/.
+-- Laws of the model's definitions, and facts computed on the boards of document 01.
 pub mod ShortestShape
 pub mod Tops
 pub mod Lengths
+pub mod WorkedBoard

@@ -3,3 +3,4 @@ pub mod ShortestShape
 pub mod Tops
 pub mod Lengths
 pub mod WorkedBoard
+pub mod RivalTests

@@ -4,3 +4,4 @@ pub mod Tops
 pub mod Lengths
 pub mod WorkedBoard
 pub mod RivalTests
+pub mod RivalFacts

@@ -1,0 +1,2 @@
+-- The plan of a job by value.
+pub mod JobPlans

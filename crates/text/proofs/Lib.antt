@@ -1,0 +1,5 @@
+-- The laws of the definitions in specs/, and of code that writes and reads by them.
+pub mod Bytes
+pub mod Numbers
+pub mod Writing
+pub mod Reading

@@ -6,6 +6,8 @@ use Prim.Native.Nat.{ℕ, zero, suc, _+_, _-_, _*_, _/_, _%_}
 use lib.ListN.{length}
 use lib.Dec.{leb, ltb}
 use Rattle.lists.specs.Lists.{allOf}
+use Rattle.text.specs.declared.Number.{Number}
+use Rattle.text.specs.declared.Number.the-variants.{Value, Bad}
 
 -- the digits of n, where k bounds how often n is divided; k = n is always enough
 unfoldable pub digitsIn : ℕ → ℕ → List ℕ
@@ -27,3 +29,8 @@ valueFrom acc (b ∷ bs) = valueFrom (acc * 10 + (b - 48)) bs
 -- a word of one to `most` digits is a number, leading zeros or not
 unfoldable pub number : ℕ → List ℕ → Option ℕ
 number most w = cond (leb 1 (length w) && leb (length w) most && allOf isDigit w) (some (valueFrom 0 w)) none
+
+-- the same as the answer of the code
+unfoldable pub numberOf : Option ℕ → Number
+numberOf none = Bad
+numberOf (some n) = Value n

@@ -4,10 +4,12 @@ use mathlib.Core.List.{List, [], _∷_}
 use Prim.Native.Nat.{ℕ, suc, _+_, _-_, min}
 use lib.ListN.{length, take, drop}
 use lib.Dec.{ltb}
-use Rattle.text.specs.Bytes.{isEnd, lines}
+use Rattle.text.specs.Bytes.{isEnd, notSpace, endsWord, lines}
 use Rattle.lines.specs.declared.Place.{Place}
 use Rattle.lines.specs.declared.Step.{Step}
 use Rattle.lines.specs.declared.Step.the-variants.{Line, End}
+use Rattle.lines.specs.declared.Stop.{Stop}
+use Rattle.lines.specs.declared.Stop.the-variants.{LineEnd, NotSpace, WordEnd}
 
 -- how many bytes stand before the first for which f holds; all, where there is none
 unfoldable pub until : (ℕ → Bool) → List ℕ → ℕ
@@ -17,6 +19,12 @@ until f (b ∷ bs) = let more = suc (until f bs) in cond (f b) 0 more
 -- the place of the first byte at or after `at` for which f holds, or the end of the text
 unfoldable pub scan : (ℕ → Bool) → List ℕ → ℕ → ℕ
 scan f s at = at + until f (drop at s)
+
+-- the test by which a scan stops
+abbrev pub stopsAt : Stop → ℕ → Bool
+stopsAt LineEnd = isEnd
+stopsAt NotSpace = notSpace
+stopsAt WordEnd = endsWord
 
 abbrev pub lineEnd : List ℕ → ℕ → ℕ
 lineEnd s at = scan isEnd s at

@@ -21,7 +21,7 @@ word-len-requires : tie.Need-word-len-requires Inv-loop μ-loop
 word-len-requires c κs = search needs
 
 returns : tie.Need-returns Inv-loop μ-loop
-returns c = sym (same-sizes _ _ (λ e. c .if1 .taken (e ∙ sym (c .before .word-len .ensures))))
+returns c = sym (same-sizes _ _ (λ e. omega arith))
 
 loop-holds : tie.Need-loop-holds Inv-loop μ-loop
 loop-holds c = search needs

@@ -3,6 +3,7 @@ use borrow.Author.Needs.{needs}
 use Prim.Native.Nat.{_-_}
 use native.Mathlib.Omega.{arith}
 use lib.ListN.{length}
+use denote.Ref.{now}
 use Rattle.text.specs.Digits.{numberOf}
 use Rattle.text.proofs.Reading.{Sofar, sofar-none, sofar-more, number-below, number-above, number-empty, number-long, number-whole, value-fits}
 use Rattle.text.proofs.read_number.Statement.{statement}
@@ -16,11 +17,15 @@ abbrev μ-loop : tie.MeasureT-loop
 
 returns : tie.Need-returns Inv-loop μ-loop
 unfolding numberOf
-returns c = rw (number-empty _ _ (c .if1 .taken))
+returns c =
+    let a = c .before .args in
+    rw (number-empty (a .most) (now (a .s)) (omega arith))
 
 returns-2 : tie.Need-returns-2 Inv-loop μ-loop
 unfolding numberOf
-returns-2 c = rw (number-long _ _ (c .if2 .taken))
+returns-2 c =
+    let a = c .before .before .args in
+    rw (number-long (a .most) (now (a .s)) (omega arith))
 
 loop-holds : tie.Need-loop-holds Inv-loop μ-loop
 loop-holds c = sofar-none _

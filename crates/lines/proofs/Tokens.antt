@@ -45,7 +45,7 @@ at-on s at i e = ap (tokenOn s) e
 
 -- spaces before a word
 
-space-first : (b : ℕ) (t : List ℕ) → isSpace b ≡ true → lineWords (b ∷ t) ≡ lineWords t
+pub space-first : (b : ℕ) (t : List ℕ) → isSpace b ≡ true → lineWords (b ∷ t) ≡ lineWords t
 unfolding lineWords spaced pieces nonEmpty
 space-first b t e = rw (eqb-true b 32 e)
 
@@ -78,7 +78,7 @@ no-space (b ∷ w) e =
 split-words : List ℕ → List (List ℕ)
 split-words l = nonEmpty (pieces isSpace l)
 
-word-last : (w : List ℕ) → allOf (λ b. not (endsWord b)) w ≡ true → 1 ≤ length w → lineWords (w ++ []) ≡ w ∷ lineWords []
+pub word-last : (w : List ℕ) → allOf (λ b. not (endsWord b)) w ≡ true → 1 ≤ length w → lineWords (w ++ []) ≡ w ∷ lineWords []
 unfolding lineWords split-words spaced pieces nonEmpty
 word-last w e h =
     ap split-words (spaced-word w [] e ∙ append-nil w)
@@ -100,7 +100,7 @@ end-spaced c r m =
     by-test (isBracket c) (λ b. (c ∷ 32 ∷ spaced r, rw b))
     (λ b. (spaced r, rw (b, eqb-true c 32 (either (isSpace c) (isBracket c) m b))))
 
-word-then : (w : List ℕ) (c : ℕ) (r : List ℕ) → allOf (λ b. not (endsWord b)) w ≡ true → 1 ≤ length w → endsWord c ≡ true → lineWords (w ++ c ∷ r) ≡ w ∷ lineWords (c ∷ r)
+pub word-then : (w : List ℕ) (c : ℕ) (r : List ℕ) → allOf (λ b. not (endsWord b)) w ≡ true → 1 ≤ length w → endsWord c ≡ true → lineWords (w ++ c ∷ r) ≡ w ∷ lineWords (c ∷ r)
 unfolding lineWords split-words
 word-then w c r e h m =
     let k = end-spaced c r m in
@@ -125,11 +125,11 @@ first-word t h =
           ∙ ap (λ (l : List ℕ). take u t ∷ lineWords l) (sym z)
     ]
 
-open-first : (t : List ℕ) → lineWords (40 ∷ t) ≡ opening ∷ lineWords t
+pub open-first : (t : List ℕ) → lineWords (40 ∷ t) ≡ opening ∷ lineWords t
 unfolding lineWords spaced pieces nonEmpty joined
 open-first t = refl
 
-shut-first : (t : List ℕ) → lineWords (41 ∷ t) ≡ closing ∷ lineWords t
+pub shut-first : (t : List ℕ) → lineWords (41 ∷ t) ≡ closing ∷ lineWords t
 unfolding lineWords spaced pieces nonEmpty joined
 shut-first t = refl
 

@@ -1,0 +1,30 @@
+-- Document 01, "Operations", read: the number and the line of each outcome. This is the one place that gives the document's numbers.
+use Prim.Native.Nat.{ℕ}
+use Rattle.jobfile.specs.declared.Outcome.{Outcome}
+use Rattle.jobfile.specs.declared.Outcome.the-variants.{Accepted, TooLong, NotOfForm, OutOfRange, TooMany, NumberNotAbove, PinUsed, SameRow, NoLength, TooFewRows}
+
+-- the number of a refusal; 0 where nothing is refused
+abbrev pub numberOf : Outcome → ℕ
+numberOf Accepted = 0
+numberOf TooLong = 1
+numberOf (NotOfForm k) = 2
+numberOf (OutOfRange k) = 3
+numberOf (TooMany k) = 4
+numberOf (NumberNotAbove k) = 5
+numberOf (PinUsed k) = 6
+numberOf (SameRow k) = 7
+numberOf (NoLength k) = 8
+numberOf (TooFewRows k) = 9
+
+-- the line that a refusal names; 0 where it names none
+abbrev pub lineOf : Outcome → ℕ
+lineOf Accepted = 0
+lineOf TooLong = 0
+lineOf (NotOfForm k) = k
+lineOf (OutOfRange k) = k
+lineOf (TooMany k) = k
+lineOf (NumberNotAbove k) = k
+lineOf (PinUsed k) = k
+lineOf (SameRow k) = k
+lineOf (NoLength k) = k
+lineOf (TooFewRows k) = k

@@ -1,0 +1,64 @@
+-- Document 01, "Text of a job": the form that a line is.
+use mathlib.Core.Bool.{Bool, true, false, cond, _&&_}
+use mathlib.Core.List.{List, [], _∷_}
+use mathlib.Core.Option.{Option, none, some}
+use Prim.Native.Nat.{ℕ, zero, suc}
+use lib.ListN.{getD}
+use Rattle.text.specs.Bytes.{same}
+use Rattle.text.specs.Digits.{number}
+use Rattle.keywords.specs.Keywords.{findWord}
+use Rattle.keywords.specs.declared.Vocabulary.the-variants as Words
+use Rattle.lines.specs.Tokens.{lineWords, opening, closing}
+use Rattle.jobfile.specs.declared.Form.{Form}
+use Rattle.jobfile.specs.declared.Form.the-variants.{Blank, Board, Rows, Tracks, Net, Block, Close, Other}
+
+-- no word is left
+unfoldable pub noWord : List (List ℕ) → Bool
+noWord [] = true
+noWord (w ∷ ws) = false
+
+-- x where no word is left
+unfoldable pub ifLast : List (List ℕ) → Form → Form
+ifLast ws x = cond (noWord ws) x Other
+
+-- a number before further ones, where all of them are numbers
+unfoldable pub consNumber : Option ℕ → Option (List ℕ) → Option (List ℕ)
+consNumber none ns = none
+consNumber (some n) none = none
+consNumber (some n) (some ns) = some (n ∷ ns)
+
+-- k numbers of one to five digits, then a closing bracket and nothing more
+unfoldable pub arguments : ℕ → List (List ℕ) → Option (List ℕ)
+arguments zero [] = none
+arguments zero (w ∷ ws) = cond (same w closing && noWord ws) (some []) none
+arguments (suc k) [] = none
+arguments (suc k) (w ∷ ws) = consNumber (number 5 w) (arguments k ws)
+
+-- the form that numbers make, where they are given
+unfoldable pub formFrom : Option (List ℕ) → (List ℕ → Form) → Form
+formFrom none f = Other
+formFrom (some ns) f = f ns
+
+-- the form that word i of the table opens, with the words behind it
+unfoldable pub formAfter : ℕ → List (List ℕ) → Form
+formAfter zero ws = ifLast ws Board
+formAfter (suc zero) ws = formFrom (arguments 1 ws) (λ a. Rows (getD a 0 0))
+formAfter (suc (suc zero)) ws = formFrom (arguments 1 ws) (λ a. Tracks (getD a 0 0))
+formAfter (suc (suc (suc zero))) ws =
+    formFrom (arguments 5 ws) (λ a. Net (getD a 0 0) (getD a 1 0) (getD a 2 0) (getD a 3 0) (getD a 4 0))
+formAfter (suc (suc (suc (suc zero)))) ws = formFrom (arguments 3 ws) (λ a. Block (getD a 0 0) (getD a 1 0) (getD a 2 0))
+formAfter (suc (suc (suc (suc (suc i))))) ws = Other
+
+-- the form of the words behind an opening bracket
+unfoldable pub formOpened : List (List ℕ) → Form
+formOpened [] = Other
+formOpened (w ∷ ws) = formAfter (findWord Words.Job w) ws
+
+-- the form of the words of a line, each bracket a word of its own
+unfoldable pub formOf : List (List ℕ) → Form
+formOf [] = Blank
+formOf (w ∷ ws) = cond (same w closing) (ifLast ws Close) (cond (same w opening) (formOpened ws) Other)
+
+-- the form that a line is
+unfoldable pub readForm : List ℕ → Form
+readForm s = formOf (lineWords s)

@@ -1,0 +1,55 @@
+// Reading a job: each line of a text is a form, and the text becomes a job by value or a refusal that names its line.
+use board::Block;
+use board::Board;
+use board::Net;
+
+// What a line of a job is: blank, one of the five forms with its numbers in the order of the line, the closing bracket, or none of these.
+pub enum Form {
+    Blank,
+    Board,
+    Rows(usize),
+    Tracks(usize),
+    Net(usize, usize, usize, usize, usize),
+    Block(usize, usize, usize),
+    Close,
+    Other,
+}
+
+// The answer of read: the text is accepted, or refused for one reason; all but one name the faulty line.
+pub enum Outcome {
+    Accepted,
+    // above 64,000 bytes
+    TooLong,
+    // not of the form, or the text ends early
+    NotOfForm(usize),
+    // a number outside its range
+    OutOfRange(usize),
+    // a 513th net or 257th block
+    TooMany(usize),
+    // a net number not above that of the net before
+    NumberNotAbove(usize),
+    // L or R already used on its side
+    PinUsed(usize),
+    // L = R
+    SameRow(usize),
+    // no allowed length
+    NoLength(usize),
+    // the needed rows are more than the board has
+    TooFewRows(usize),
+}
+
+// A job by value: the first `nnets` of its nets and the first `nblocks` of its blocks are used, and every other slot holds the same
+// empty record.
+pub struct StoredJob {
+    pub board: Board,
+    pub nnets: usize,
+    pub nblocks: usize,
+    pub nets: [Net; 512],
+    pub blocks: [Block; 256],
+}
+
+// What read returns: the outcome, and the job where it is accepted, the empty job where it is refused.
+pub struct Answer {
+    pub outcome: Outcome,
+    pub job: StoredJob,
+}

@@ -1,1 +1,6 @@
 -- The laws of the definitions in specs/.
+pub mod Joins
+pub mod Shortest
+pub mod Tests
+pub mod Accepts
+pub mod StoredJobs

@@ -1,0 +1,226 @@
+-- Every job that read gives is accepted. Assumes nothing.
+use Prim.Native.Nat.{ℕ, suc, _≤_, _<_}
+use mathlib.Core.Path.{_≡_, refl}
+use mathlib.Core.Logic.{⊎-elim}
+use mathlib.Core.Bool.{Bool, true, false, not}
+use mathlib.Core.List.{List, [], _∷_, _++_, List·Memᴰ·not-nil, List·Memᴰ·cases-cons, List·Memᴰ·append-cases}
+use native.Mathlib.Omega.{arith}
+use lib.Dec.{eqb, leb, ltb}
+use lib.ListN.{length, length-append}
+use borrow.Author.Tests.{leb-true, ltb-true}
+use Rattle.lists.specs.Lists.{Each, EachPair, allOf}
+use Rattle.lists.proofs.Cases.{by-test}
+use Rattle.lists.proofs.Laws.{Each-map, Each-of}
+use Rattle.board.specs.declared.Board.{Board}
+use Rattle.board.specs.declared.Net.{Net}
+use Rattle.board.specs.declared.Block.{Block}
+use Rattle.board.specs.Job.{Job}
+use Rattle.board.specs.Length.{lengthOf, shortest, needed}
+use Rattle.board.specs.Accepted.{Accepted, AcceptedNet, BlockInRange}
+use Rattle.text.specs.Bytes.{lines}
+use Rattle.jobfile.specs.declared.Form.{Form}
+use Rattle.jobfile.specs.declared.Form.the-variants as Is
+use Rattle.jobfile.specs.declared.Outcome.{Outcome}
+use Rattle.jobfile.specs.declared.Outcome.the-variants.{TooLong, NotOfForm, OutOfRange, TooMany, NumberNotAbove, PinUsed, SameRow, NoLength, TooFewRows}
+use Rattle.jobfile.specs.Forms.{readForm}
+use Rattle.jobfile.specs.Read.{State, start, opened, sized, filled, closed, Next, go, stop, unless, atStart, atOpened, atSized, atFilled, within, netOf, blockOf, boardOf, emptyBoard, withNet, withBlock, netInRange, blockInRange, lastNumber, pinsFree, addNet, addBlock, step, Read, accepted, refused, ended, follow, readFrom, readJob}
+use Rattle.jobfile.proofs.Joins.{Each-every, EachPair-join}
+use Rattle.jobfile.proofs.Tests.{within-is, differ-is, net-range-is, block-range-is, free-is, length-is}
+
+-- what has been read is accepted
+abbrev Good : State → Type 0
+Good start = Unit {0}
+Good opened = Unit {0}
+Good (sized h) = (1 ≤ h) × (h ≤ 1024)
+Good (filled job) = Accepted job
+Good (closed job) = Accepted job
+
+-- every state that a line leads to is good
+abbrev Gives : Next → Type 0
+Gives x = (s : State) → x ≡ go s → Good s
+
+stop-gives : (o : Outcome) → Gives (stop o)
+stop-gives o s e = absurd (let z : _≡_ {A = ℕ} 0 1 = cc in omega arith)
+
+go-gives : (s : State) → Good s → Gives (go s)
+go-gives s g t e = let q : s ≡ t = cc in rw q at g
+
+unless-gives : (b : Bool) (o : Outcome) (x : Next) → (b ≡ true → Gives x) → Gives (unless b o x)
+unfolding unless
+unless-gives true o x f = f refl
+unless-gives false o x f = stop-gives o
+
+-- ---- a net or a block more
+
+-- the last number of rising ones is the largest
+last-most : (k : ℕ) (ns : List Net) → EachPair (λ a b. a .number < b .number) ns → Each (λ n. k ≤ n .number) ns → (k ≤ lastNumber k ns) × Each (λ n. n .number ≤ lastNumber k ns) ns
+unfolding lastNumber
+last-most k [] r a = (omega arith, tt)
+last-most k (n ∷ ns) r a =
+    let h = last-most (n .number) ns (r .1) (Each-map ns (λ m l. omega (arith, l)) (r .0)) in
+    (omega (arith, h .0, a .0), (h .0, h .1))
+
+module _ (job : Job) (n : Net) (a : Accepted job) where
+  record Tests : Type 0 where
+    ranges : netInRange (job .board) n ≡ true
+    few : ltb (length (job .nets)) 512 ≡ true
+    above : ltb (lastNumber 0 (job .nets)) (n .number) ≡ true
+    free : allOf (pinsFree n) (job .nets) ≡ true
+    differ : not (eqb (n .left .0) (n .right .0)) ≡ true
+    allowed : leb (lengthOf (job .board) n (shortest (job .board) n)) (n .max) ≡ true
+    fits : leb (needed (job .board) n) (job .board .rows) ≡ true
+
+  new-net : Tests → AcceptedNet (job .board) n
+  new-net t =
+      let s = length-is (job .board) n .0 (t .allowed) in
+      record {
+        in-range = net-range-is (job .board) n .0 (t .ranges);
+        ends-differ = differ-is (n .left .0) (n .right .0) .0 (t .differ);
+        some-shape = s .0;
+        some-length = s .1;
+        fits-board = leb-true _ _ (t .fits);
+      }
+
+  rises : Tests → EachPair (λ a b. a .number < b .number) (job .nets ++ (n ∷ []))
+  rises t =
+      let m = last-most 0 (job .nets) (a .numbers-rise) (Each-every (job .nets) (λ x i. omega arith)) in
+      let l = ltb-true (lastNumber 0 (job .nets)) (n .number) (t .above) in
+      EachPair-join (λ x y. x .number < y .number) (job .nets) (n ∷ []) (a .numbers-rise) (tt, tt) (Each-map (job .nets) (λ x y. (omega (arith, y, l), tt)) (m .1))
+
+  free-pins : Tests → Each (λ m. (m .left .0 ≡ n .left .0 → ⊥) × (m .right .0 ≡ n .right .0 → ⊥)) (job .nets)
+  free-pins t = Each-of (pinsFree n) (job .nets) (λ m h. free-is n m .0 h) (t .free)
+
+  net-accepted : Tests → Accepted (withNet job n)
+  net-accepted t =
+      let pins = free-pins t in
+      record {
+        board-range = a .board-range;
+        nets-count = omega (arith, length-append (job .nets) (n ∷ []), ltb-true (length (job .nets)) 512 (t .few));
+        blocks-count = a .blocks-count;
+        nets-each = λ m i. ⊎-elim
+            (λ j. a .nets-each m j)
+            (λ j. ⊎-elim (λ (q : m ≡ n). rw q (new-net t)) (λ k. absurd (List·Memᴰ·not-nil k)) (List·Memᴰ·cases-cons j))
+            (List·Memᴰ·append-cases (job .nets) i);
+        blocks-each = a .blocks-each;
+        numbers-rise = rises t;
+        lefts-differ = EachPair-join (λ x y. x .left .0 ≡ y .left .0 → ⊥) (job .nets) (n ∷ []) (a .lefts-differ) (tt, tt) (Each-map (job .nets) (λ m p. (p .0, tt)) pins);
+        rights-differ = EachPair-join (λ x y. x .right .0 ≡ y .right .0 → ⊥) (job .nets) (n ∷ []) (a .rights-differ) (tt, tt) (Each-map (job .nets) (λ m p. (p .1, tt)) pins);
+      }
+
+  net-gives : (k : ℕ) → Gives (addNet k n job)
+  unfolding addNet
+  net-gives k =
+      unless-gives _ (OutOfRange k) _ (λ e3. unless-gives _ (TooMany k) _ (λ e4. unless-gives _ (NumberNotAbove k) _ (λ e5. unless-gives _ (PinUsed k) _ (λ e6. unless-gives _ (SameRow k) _ (λ e7. unless-gives _ (NoLength k) _ (λ e8. unless-gives _ (TooFewRows k) _ (λ e9.
+      go-gives (filled (withNet job n)) (net-accepted (record { ranges = e3; few = e4; above = e5; free = e6; differ = e7; allowed = e8; fits = e9 })))))))))
+
+module _ (job : Job) (b : Block) (a : Accepted job) where
+  block-accepted : blockInRange (job .board) b ≡ true → ltb (length (job .blocks)) 256 ≡ true → Accepted (withBlock job b)
+  block-accepted h l =
+      record {
+        board-range = a .board-range;
+        nets-count = a .nets-count;
+        blocks-count = omega (arith, length-append (job .blocks) (b ∷ []), ltb-true (length (job .blocks)) 256 l);
+        nets-each = a .nets-each;
+        blocks-each = λ x i. ⊎-elim
+            (λ j. a .blocks-each x j)
+            (λ j. ⊎-elim (λ (q : x ≡ b). rw q (block-range-is (job .board) b .0 h)) (λ k. absurd (List·Memᴰ·not-nil k)) (List·Memᴰ·cases-cons j))
+            (List·Memᴰ·append-cases (job .blocks) i);
+        numbers-rise = a .numbers-rise;
+        lefts-differ = a .lefts-differ;
+        rights-differ = a .rights-differ;
+      }
+
+  block-gives : (k : ℕ) → Gives (addBlock k b job)
+  unfolding addBlock
+  block-gives k = unless-gives _ (OutOfRange k) _ (λ e3. unless-gives _ (TooMany k) _ (λ e4. go-gives (filled (withBlock job b)) (block-accepted e3 e4)))
+
+empty-accepted : (h k : ℕ) → (1 ≤ h) × (h ≤ 1024) → (1 ≤ k) × (k ≤ 128) → Accepted (emptyBoard (boardOf h k))
+empty-accepted h k a b =
+    record {
+      board-range = record { rows-range = a; tracks-range = b };
+      nets-count = omega arith;
+      blocks-count = omega arith;
+      nets-each = λ n i. absurd (List·Memᴰ·not-nil i);
+      blocks-each = λ x i. absurd (List·Memᴰ·not-nil i);
+      numbers-rise = tt;
+      lefts-differ = tt;
+      rights-differ = tt;
+    }
+
+-- ---- a line
+
+start-gives : (k : ℕ) (s : State) (x : Next) → Gives x → Gives (atStart k s x)
+unfolding atStart
+start-gives k start x g = g
+start-gives k opened x g = stop-gives (NotOfForm k)
+start-gives k (sized h) x g = stop-gives (NotOfForm k)
+start-gives k (filled j) x g = stop-gives (NotOfForm k)
+start-gives k (closed j) x g = stop-gives (NotOfForm k)
+
+opened-gives : (k : ℕ) (s : State) (x : Next) → Gives x → Gives (atOpened k s x)
+unfolding atOpened
+opened-gives k start x g = stop-gives (NotOfForm k)
+opened-gives k opened x g = g
+opened-gives k (sized h) x g = stop-gives (NotOfForm k)
+opened-gives k (filled j) x g = stop-gives (NotOfForm k)
+opened-gives k (closed j) x g = stop-gives (NotOfForm k)
+
+sized-gives : (k : ℕ) (s : State) (f : ℕ → Next) → Good s → ((h : ℕ) → Good (sized h) → Gives (f h)) → Gives (atSized k s f)
+unfolding atSized
+sized-gives k start f a g = stop-gives (NotOfForm k)
+sized-gives k opened f a g = stop-gives (NotOfForm k)
+sized-gives k (sized h) f a g = g h a
+sized-gives k (filled j) f a g = stop-gives (NotOfForm k)
+sized-gives k (closed j) f a g = stop-gives (NotOfForm k)
+
+filled-gives : (k : ℕ) (s : State) (f : Job → Next) → Good s → ((j : Job) → Accepted j → Gives (f j)) → Gives (atFilled k s f)
+unfolding atFilled
+filled-gives k start f a g = stop-gives (NotOfForm k)
+filled-gives k opened f a g = stop-gives (NotOfForm k)
+filled-gives k (sized h) f a g = stop-gives (NotOfForm k)
+filled-gives k (filled j) f a g = g j a
+filled-gives k (closed j) f a g = stop-gives (NotOfForm k)
+
+step-gives : (k : ℕ) (s : State) (x : Form) → Good s → Gives (step k s x)
+unfolding step
+step-gives k s Is.Blank g = go-gives s g
+step-gives k s Is.Board g = start-gives k s (go opened) (go-gives opened tt)
+step-gives k s (Is.Rows h) g =
+    opened-gives k s _ (unless-gives _ (OutOfRange k) _ (λ e. go-gives (sized h) (within-is 1 1024 h .0 e)))
+step-gives k s (Is.Tracks t) g =
+    sized-gives k s _ g (λ h r. unless-gives _ (OutOfRange k) _ (λ e. go-gives (filled (emptyBoard (boardOf h t))) (empty-accepted h t r (within-is 1 128 t .0 e))))
+step-gives k s (Is.Net i l r lo hi) g = filled-gives k s _ g (λ j a. net-gives j (netOf i l r lo hi) a k)
+step-gives k s (Is.Block t a b) g = filled-gives k s _ g (λ j c. block-gives j (blockOf t a b) c k)
+step-gives k s Is.Close g = filled-gives k s _ g (λ j a. go-gives (closed j) a)
+step-gives k s Is.Other g = stop-gives (NotOfForm k)
+
+-- ---- the whole text
+
+pub not-refused : {P : Type 0} (o : Outcome) (j : Job) → refused o ≡ accepted j → P
+not-refused o j e = absurd (let z : _≡_ {A = ℕ} 0 1 = cc in omega arith)
+
+ended-accepted : (k : ℕ) (s : State) (j : Job) → Good s → ended k s ≡ accepted j → Accepted j
+unfolding ended
+ended-accepted k start j g e = not-refused (NotOfForm k) j e
+ended-accepted k opened j g e = not-refused (NotOfForm k) j e
+ended-accepted k (sized h) j g e = not-refused (NotOfForm k) j e
+ended-accepted k (filled i) j g e = not-refused (NotOfForm k) j e
+ended-accepted k (closed i) j g e = let q : i ≡ j = cc in rw q at g
+
+follow-accepted : (x : Next) (f : State → Read) (j : Job) → ((s : State) → x ≡ go s → f s ≡ accepted j → Accepted j) → follow x f ≡ accepted j → Accepted j
+unfolding follow
+follow-accepted (go s) f j g e = g s refl e
+follow-accepted (stop o) f j g e = not-refused o j e
+
+from-accepted : (k : ℕ) (s : State) (ls : List (List ℕ)) (j : Job) → Good s → readFrom k s ls ≡ accepted j → Accepted j
+unfolding readFrom
+from-accepted k s [] j g e = ended-accepted k s j g e
+from-accepted k s (l ∷ ls) j g e =
+    follow-accepted (step k s (readForm l)) (λ t. readFrom (suc k) t ls) j (λ t h. from-accepted (suc k) t ls j (step-gives k s (readForm l) g t h)) e
+
+pub read-accepted : (text : List ℕ) (job : Job) → readJob text ≡ accepted job → Accepted job
+unfolding readJob
+read-accepted text job e =
+    by-test (leb (length text) 64000)
+    (λ h. from-accepted 1 start (lines text) job tt (rw h at e))
+    (λ h. not-refused TooLong job (rw h at e))

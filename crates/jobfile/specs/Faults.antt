@@ -1,0 +1,119 @@
+-- Document 01, "Operations", read: what is faulty about a line, each refusal for itself, and which fault of a text comes first.
+use Prim.Native.Nat.{ℕ, suc, _≤_, _<_}
+use mathlib.Core.Path.{_≡_}
+use mathlib.Core.Bool.{Bool, true, false, cond}
+use mathlib.Core.List.{List, [], _∷_, _++_, map, List·Memᴰ}
+use lib.ListN.{length}
+use Rattle.lists.specs.Lists.{Each}
+use Rattle.board.specs.declared.Net.{Net}
+use Rattle.board.specs.declared.Block.{Block}
+use Rattle.board.specs.declared.Shape.{Shape}
+use Rattle.board.specs.Job.{Job}
+use Rattle.board.specs.Length.{Allowed, needed}
+use Rattle.board.specs.Accepted.{NetInRange, BlockInRange}
+use Rattle.text.specs.Bytes.{lines}
+use Rattle.jobfile.specs.declared.Form.{Form}
+use Rattle.jobfile.specs.declared.Form.the-variants as Is
+use Rattle.jobfile.specs.declared.Outcome.{Outcome}
+use Rattle.jobfile.specs.declared.Outcome.the-variants.{TooLong, NotOfForm, OutOfRange, TooMany, NumberNotAbove, PinUsed, SameRow, NoLength, TooFewRows}
+use Rattle.jobfile.specs.Forms.{readForm}
+use Rattle.jobfile.specs.Read.{netOf, blockOf, boardOf, emptyBoard, withNet, withBlock}
+use Rattle.jobfile.specs.Answers.{numberOf, lineOf}
+use Rattle.jobfile.specs.Stored.{noJob}
+
+-- the forms of the lines of a text
+abbrev pub formsOf : List ℕ → List Form
+formsOf text = map readForm (lines text)
+
+-- the job that lines hold, wherever they stand: H, K, the nets and the blocks in their order
+unfoldable pub withForm : Job → Form → Job
+withForm job Is.Blank = job
+withForm job Is.Board = job
+withForm job (Is.Rows h) = record { board = boardOf h (job .board .tracks); nets = job .nets; blocks = job .blocks }
+withForm job (Is.Tracks k) = record { board = boardOf (job .board .rows) k; nets = job .nets; blocks = job .blocks }
+withForm job (Is.Net i l r lo hi) = withNet job (netOf i l r lo hi)
+withForm job (Is.Block t a b) = withBlock job (blockOf t a b)
+withForm job Is.Close = job
+withForm job Is.Other = job
+
+unfoldable pub jobFrom : Job → List Form → Job
+jobFrom job [] = job
+jobFrom job (f ∷ fs) = jobFrom (withForm job f) fs
+
+abbrev pub jobIn : List Form → Job
+jobIn fs = jobFrom noJob fs
+
+-- lines without the blank ones, which are skipped
+abbrev pub isBlank : Form → Bool
+isBlank Is.Blank = true
+isBlank Is.Board = false
+isBlank (Is.Rows h) = false
+isBlank (Is.Tracks k) = false
+isBlank (Is.Net i l r lo hi) = false
+isBlank (Is.Block t a b) = false
+isBlank Is.Close = false
+isBlank Is.Other = false
+
+unfoldable pub nonBlank : List Form → List Form
+nonBlank [] = []
+nonBlank (f ∷ fs) = let rest = nonBlank fs in cond (isBlank f) rest (f ∷ rest)
+
+-- a net or a block
+pub data Item : Form → Type 0 where
+  net : {i l r lo hi : ℕ} → Item (Is.Net i l r lo hi)
+  block : {t a b : ℕ} → Item (Is.Block t a b)
+
+-- the lines are `(board`, `(rows H)`, `(tracks K)`, then nets and blocks in any order, and then the lines of `last`
+pub record Ordered (last fs : List Form) : Type 0 where
+  pub rows : ℕ
+  pub tracks : ℕ
+  pub items : List Form
+  pub lines-are : nonBlank fs ≡ Is.Board ∷ Is.Rows rows ∷ Is.Tracks tracks ∷ (items ++ last)
+  pub items-are : Each Item items
+
+-- a line of this form may stand below the lines fs
+abbrev pub MayFollow : List Form → Form → Type 0
+MayFollow fs Is.Blank = Unit {0}
+MayFollow fs Is.Board = nonBlank fs ≡ []
+MayFollow fs (Is.Rows h) = nonBlank fs ≡ Is.Board ∷ []
+MayFollow fs (Is.Tracks k) = (h : ℕ) × (nonBlank fs ≡ Is.Board ∷ Is.Rows h ∷ [])
+MayFollow fs (Is.Net i l r lo hi) = Ordered [] fs
+MayFollow fs (Is.Block t a b) = Ordered [] fs
+MayFollow fs Is.Close = Ordered [] fs
+MayFollow fs Is.Other = ⊥
+
+-- the faults of net n on line k, where `job` is what the lines above hold
+pub data NetFault (job : Job) (n : Net) (k : ℕ) : Outcome → Type 0 where
+  net-range : (NetInRange (job .board) n → ⊥) → NetFault job n k (OutOfRange k)
+  net-count : 512 ≤ length (job .nets) → NetFault job n k (TooMany k)
+  not-above : (before : List Net) (m : Net) → job .nets ≡ before ++ (m ∷ []) → n .number ≤ m .number → NetFault job n k (NumberNotAbove k)
+  left-used : (m : Net) → List·Memᴰ m (job .nets) → m .left .0 ≡ n .left .0 → NetFault job n k (PinUsed k)
+  right-used : (m : Net) → List·Memᴰ m (job .nets) → m .right .0 ≡ n .right .0 → NetFault job n k (PinUsed k)
+  same-row : n .left .0 ≡ n .right .0 → NetFault job n k (SameRow k)
+  no-length : ((s : Shape) → Allowed (job .board) n s → ⊥) → NetFault job n k (NoLength k)
+  too-few-rows : job .board .rows < needed (job .board) n → NetFault job n k (TooFewRows k)
+
+-- the faults of block b on line k
+pub data BlockFault (job : Job) (b : Block) (k : ℕ) : Outcome → Type 0 where
+  block-range : (BlockInRange (job .board) b → ⊥) → BlockFault job b k (OutOfRange k)
+  block-count : 256 ≤ length (job .blocks) → BlockFault job b k (TooMany k)
+
+-- the faults of line k, of the given form, below the lines `above`
+pub data LineFault (above : List Form) (k : ℕ) : Form → Outcome → Type 0 where
+  not-of-form : {f : Form} → (MayFollow above f → ⊥) → LineFault above k f (NotOfForm k)
+  rows-range : {h : ℕ} → ((1 ≤ h) × (h ≤ 1024) → ⊥) → LineFault above k (Is.Rows h) (OutOfRange k)
+  tracks-range : {t : ℕ} → ((1 ≤ t) × (t ≤ 128) → ⊥) → LineFault above k (Is.Tracks t) (OutOfRange k)
+  of-net : {i l r lo hi : ℕ} {o : Outcome} → NetFault (jobIn above) (netOf i l r lo hi) k o → LineFault above k (Is.Net i l r lo hi) o
+  of-block : {t a b : ℕ} {o : Outcome} → BlockFault (jobIn above) (blockOf t a b) k o → LineFault above k (Is.Block t a b) o
+
+-- the faults of a text: its length, those of its lines, and that it ends before its last line
+pub data Fault (text : List ℕ) : Outcome → Type 0 where
+  too-long : 64000 < length text → Fault text TooLong
+  on-line : (above below : List Form) (f : Form) {o : Outcome} → formsOf text ≡ above ++ (f ∷ below) → LineFault above (suc (length above)) f o → Fault text o
+  ends-early : (k : ℕ) → k ≡ suc (length (formsOf text)) → (Ordered (Is.Close ∷ []) (formsOf text) → ⊥) → Fault text (NotOfForm k)
+
+-- the fault that counts: no fault is on a line before it, and none on its line has a smaller number
+pub record FirstFault (text : List ℕ) (o : Outcome) : Type 0 where
+  pub fault : Fault text o
+  pub first-line : (p : Outcome) → Fault text p → lineOf o ≤ lineOf p
+  pub first-number : (p : Outcome) → Fault text p → lineOf p ≡ lineOf o → numberOf o ≤ numberOf p

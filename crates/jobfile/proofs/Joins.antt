@@ -15,6 +15,10 @@ module _ {A : Type 0} where
   Each-join P [] ys a b = b
   Each-join P (x ∷ xs) ys a b = (a .0, Each-join P xs ys (a .1) b)
 
+  pub Each-right : (P : A → Type 0) (xs ys : List A) → Each P (xs ++ ys) → Each P ys
+  Each-right P [] ys a = a
+  Each-right P (x ∷ xs) ys a = Each-right P xs ys (a .1)
+
   pub EachPair-join : (R : A → A → Type 0) (xs ys : List A) → EachPair R xs → EachPair R ys → Each (λ x. Each (R x) ys) xs → EachPair R (xs ++ ys)
   EachPair-join R [] ys a b c = b
   EachPair-join R (x ∷ xs) ys a b c = (Each-join (R x) xs ys (a .0) (c .0), EachPair-join R xs ys (a .1) b (c .1))

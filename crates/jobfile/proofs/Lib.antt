@@ -4,3 +4,6 @@ pub mod Shortest
 pub mod Tests
 pub mod Accepts
 pub mod StoredJobs
+pub mod Outcomes
+pub mod LineFaults
+pub mod Refusals

@@ -3,7 +3,7 @@ use Prim.Native.Nat.{ℕ, suc, _≤_, _<_}
 use mathlib.Core.Path.{_≡_, refl}
 use mathlib.Core.Logic.{⊎-elim}
 use mathlib.Core.Bool.{Bool, true, false, not}
-use mathlib.Core.List.{List, [], _∷_, _++_, List·Memᴰ·not-nil, List·Memᴰ·cases-cons, List·Memᴰ·append-cases}
+use mathlib.Core.List.{List, [], _∷_, _++_, List·Memᴰ·not-nil, List·Memᴰ·eq-of-singleton, List·Memᴰ·append-cases}
 use native.Mathlib.Omega.{arith}
 use lib.Dec.{eqb, leb, ltb}
 use lib.ListN.{length, length-append}
@@ -16,14 +16,14 @@ use Rattle.board.specs.declared.Net.{Net}
 use Rattle.board.specs.declared.Block.{Block}
 use Rattle.board.specs.Job.{Job}
 use Rattle.board.specs.Length.{lengthOf, shortest, needed}
-use Rattle.board.specs.Accepted.{Accepted, AcceptedNet, BlockInRange}
+use Rattle.board.specs.Accepted.{Accepted, AcceptedNet}
 use Rattle.text.specs.Bytes.{lines}
 use Rattle.jobfile.specs.declared.Form.{Form}
 use Rattle.jobfile.specs.declared.Form.the-variants as Is
 use Rattle.jobfile.specs.declared.Outcome.{Outcome}
 use Rattle.jobfile.specs.declared.Outcome.the-variants.{TooLong, NotOfForm, OutOfRange, TooMany, NumberNotAbove, PinUsed, SameRow, NoLength, TooFewRows}
 use Rattle.jobfile.specs.Forms.{readForm}
-use Rattle.jobfile.specs.Read.{State, start, opened, sized, filled, closed, Next, go, stop, unless, atStart, atOpened, atSized, atFilled, within, netOf, blockOf, boardOf, emptyBoard, withNet, withBlock, netInRange, blockInRange, lastNumber, pinsFree, addNet, addBlock, step, Read, accepted, refused, ended, follow, readFrom, readJob}
+use Rattle.jobfile.specs.Read.{State, start, opened, sized, filled, closed, Next, go, stop, unless, atStart, atOpened, atSized, atFilled, netOf, blockOf, boardOf, emptyBoard, withNet, withBlock, netInRange, blockInRange, lastNumber, pinsFree, addNet, addBlock, step, Read, accepted, refused, ended, follow, readFrom, readJob}
 use Rattle.jobfile.proofs.Joins.{Each-every, EachPair-join}
 use Rattle.jobfile.proofs.Tests.{within-is, differ-is, net-range-is, block-range-is, free-is, length-is}
 
@@ -53,7 +53,8 @@ unless-gives false o x f = stop-gives o
 -- ---- a net or a block more
 
 -- the last number of rising ones is the largest
-last-most : (k : ℕ) (ns : List Net) → EachPair (λ a b. a .number < b .number) ns → Each (λ n. k ≤ n .number) ns → (k ≤ lastNumber k ns) × Each (λ n. n .number ≤ lastNumber k ns) ns
+last-most : (k : ℕ) (ns : List Net) → EachPair (λ a b. a .number < b .number) ns → Each (λ n. k ≤ n .number) ns →
+    (k ≤ lastNumber k ns) × Each (λ n. n .number ≤ lastNumber k ns) ns
 unfolding lastNumber
 last-most k [] r a = (omega arith, tt)
 last-most k (n ∷ ns) r a =
@@ -85,7 +86,8 @@ module _ (job : Job) (n : Net) (a : Accepted job) where
   rises t =
       let m = last-most 0 (job .nets) (a .numbers-rise) (Each-every (job .nets) (λ x i. omega arith)) in
       let l = ltb-true (lastNumber 0 (job .nets)) (n .number) (t .above) in
-      EachPair-join (λ x y. x .number < y .number) (job .nets) (n ∷ []) (a .numbers-rise) (tt, tt) (Each-map (job .nets) (λ x y. (omega (arith, y, l), tt)) (m .1))
+      EachPair-join (λ x y. x .number < y .number) (job .nets) (n ∷ []) (a .numbers-rise) (tt, tt)
+      (Each-map (job .nets) (λ x y. (omega (arith, y, l), tt)) (m .1))
 
   free-pins : Tests → Each (λ m. (m .left .0 ≡ n .left .0 → ⊥) × (m .right .0 ≡ n .right .0 → ⊥)) (job .nets)
   free-pins t = Each-of (pinsFree n) (job .nets) (λ m h. free-is n m .0 h) (t .free)
@@ -99,19 +101,28 @@ module _ (job : Job) (n : Net) (a : Accepted job) where
         blocks-count = a .blocks-count;
         nets-each = λ m i. ⊎-elim
             (λ j. a .nets-each m j)
-            (λ j. ⊎-elim (λ (q : m ≡ n). rw q (new-net t)) (λ k. absurd (List·Memᴰ·not-nil k)) (List·Memᴰ·cases-cons j))
+            (λ j. let q : m ≡ n = List·Memᴰ·eq-of-singleton j in rw q (new-net t))
             (List·Memᴰ·append-cases (job .nets) i);
         blocks-each = a .blocks-each;
         numbers-rise = rises t;
-        lefts-differ = EachPair-join (λ x y. x .left .0 ≡ y .left .0 → ⊥) (job .nets) (n ∷ []) (a .lefts-differ) (tt, tt) (Each-map (job .nets) (λ m p. (p .0, tt)) pins);
-        rights-differ = EachPair-join (λ x y. x .right .0 ≡ y .right .0 → ⊥) (job .nets) (n ∷ []) (a .rights-differ) (tt, tt) (Each-map (job .nets) (λ m p. (p .1, tt)) pins);
+        lefts-differ = EachPair-join (λ x y. x .left .0 ≡ y .left .0 → ⊥) (job .nets) (n ∷ []) (a .lefts-differ) (tt, tt)
+            (Each-map (job .nets) (λ m p. (p .0, tt)) pins);
+        rights-differ = EachPair-join (λ x y. x .right .0 ≡ y .right .0 → ⊥) (job .nets) (n ∷ []) (a .rights-differ) (tt, tt)
+            (Each-map (job .nets) (λ m p. (p .1, tt)) pins);
       }
 
   net-gives : (k : ℕ) → Gives (addNet k n job)
   unfolding addNet
   net-gives k =
-      unless-gives _ (OutOfRange k) _ (λ e3. unless-gives _ (TooMany k) _ (λ e4. unless-gives _ (NumberNotAbove k) _ (λ e5. unless-gives _ (PinUsed k) _ (λ e6. unless-gives _ (SameRow k) _ (λ e7. unless-gives _ (NoLength k) _ (λ e8. unless-gives _ (TooFewRows k) _ (λ e9.
-      go-gives (filled (withNet job n)) (net-accepted (record { ranges = e3; few = e4; above = e5; free = e6; differ = e7; allowed = e8; fits = e9 })))))))))
+      unless-gives _ (OutOfRange k) _ (λ e3.
+      unless-gives _ (TooMany k) _ (λ e4.
+      unless-gives _ (NumberNotAbove k) _ (λ e5.
+      unless-gives _ (PinUsed k) _ (λ e6.
+      unless-gives _ (SameRow k) _ (λ e7.
+      unless-gives _ (NoLength k) _ (λ e8.
+      unless-gives _ (TooFewRows k) _ (λ e9.
+      let t : Tests = record { ranges = e3; few = e4; above = e5; free = e6; differ = e7; allowed = e8; fits = e9 } in
+      go-gives (filled (withNet job n)) (net-accepted t))))))))
 
 module _ (job : Job) (b : Block) (a : Accepted job) where
   block-accepted : blockInRange (job .board) b ≡ true → ltb (length (job .blocks)) 256 ≡ true → Accepted (withBlock job b)
@@ -123,7 +134,7 @@ module _ (job : Job) (b : Block) (a : Accepted job) where
         nets-each = a .nets-each;
         blocks-each = λ x i. ⊎-elim
             (λ j. a .blocks-each x j)
-            (λ j. ⊎-elim (λ (q : x ≡ b). rw q (block-range-is (job .board) b .0 h)) (λ k. absurd (List·Memᴰ·not-nil k)) (List·Memᴰ·cases-cons j))
+            (λ j. let q : x ≡ b = List·Memᴰ·eq-of-singleton j in rw q (block-range-is (job .board) b .0 h))
             (List·Memᴰ·append-cases (job .blocks) i);
         numbers-rise = a .numbers-rise;
         lefts-differ = a .lefts-differ;
@@ -132,7 +143,10 @@ module _ (job : Job) (b : Block) (a : Accepted job) where
 
   block-gives : (k : ℕ) → Gives (addBlock k b job)
   unfolding addBlock
-  block-gives k = unless-gives _ (OutOfRange k) _ (λ e3. unless-gives _ (TooMany k) _ (λ e4. go-gives (filled (withBlock job b)) (block-accepted e3 e4)))
+  block-gives k =
+      unless-gives _ (OutOfRange k) _ (λ e3.
+      unless-gives _ (TooMany k) _ (λ e4.
+      go-gives (filled (withBlock job b)) (block-accepted e3 e4)))
 
 empty-accepted : (h k : ℕ) → (1 ≤ h) × (h ≤ 1024) → (1 ≤ k) × (k ≤ 128) → Accepted (emptyBoard (boardOf h k))
 empty-accepted h k a b =
@@ -188,7 +202,9 @@ step-gives k s Is.Board g = start-gives k s (go opened) (go-gives opened tt)
 step-gives k s (Is.Rows h) g =
     opened-gives k s _ (unless-gives _ (OutOfRange k) _ (λ e. go-gives (sized h) (within-is 1 1024 h .0 e)))
 step-gives k s (Is.Tracks t) g =
-    sized-gives k s _ g (λ h r. unless-gives _ (OutOfRange k) _ (λ e. go-gives (filled (emptyBoard (boardOf h t))) (empty-accepted h t r (within-is 1 128 t .0 e))))
+    sized-gives k s _ g (λ h r.
+    unless-gives _ (OutOfRange k) _ (λ e.
+    go-gives (filled (emptyBoard (boardOf h t))) (empty-accepted h t r (within-is 1 128 t .0 e))))
 step-gives k s (Is.Net i l r lo hi) g = filled-gives k s _ g (λ j a. net-gives j (netOf i l r lo hi) a k)
 step-gives k s (Is.Block t a b) g = filled-gives k s _ g (λ j c. block-gives j (blockOf t a b) c k)
 step-gives k s Is.Close g = filled-gives k s _ g (λ j a. go-gives (closed j) a)
@@ -207,7 +223,8 @@ ended-accepted k (sized h) j g e = not-refused (NotOfForm k) j e
 ended-accepted k (filled i) j g e = not-refused (NotOfForm k) j e
 ended-accepted k (closed i) j g e = let q : i ≡ j = cc in rw q at g
 
-follow-accepted : (x : Next) (f : State → Read) (j : Job) → ((s : State) → x ≡ go s → f s ≡ accepted j → Accepted j) → follow x f ≡ accepted j → Accepted j
+follow-accepted : (x : Next) (f : State → Read) (j : Job) → ((s : State) → x ≡ go s → f s ≡ accepted j → Accepted j) →
+    follow x f ≡ accepted j → Accepted j
 unfolding follow
 follow-accepted (go s) f j g e = g s refl e
 follow-accepted (stop o) f j g e = not-refused o j e
@@ -216,7 +233,8 @@ from-accepted : (k : ℕ) (s : State) (ls : List (List ℕ)) (j : Job) → Good 
 unfolding readFrom
 from-accepted k s [] j g e = ended-accepted k s j g e
 from-accepted k s (l ∷ ls) j g e =
-    follow-accepted (step k s (readForm l)) (λ t. readFrom (suc k) t ls) j (λ t h. from-accepted (suc k) t ls j (step-gives k s (readForm l) g t h)) e
+    follow-accepted (step k s (readForm l)) (λ t. readFrom (suc k) t ls) j
+    (λ t h. from-accepted (suc k) t ls j (step-gives k s (readForm l) g t h)) e
 
 pub read-accepted : (text : List ℕ) (job : Job) → readJob text ≡ accepted job → Accepted job
 unfolding readJob

@@ -1,6 +1,6 @@
 -- Statements over the elements of joined lists, and a test that fails for some element. Assumes nothing.
 use mathlib.Core.Path.{_≡_, refl}
-use mathlib.Core.Bool.{Bool, true, false, true≢false}
+use mathlib.Core.Bool.{Bool, false, true≢false}
 use mathlib.Core.List.{List, [], _∷_, _++_, List·Memᴰ, List·Memᴰ·head, List·Memᴰ·tail}
 use Rattle.lists.specs.Lists.{Each, EachPair, allOf}
 use Rattle.lists.proofs.Cases.{by-test}
@@ -19,7 +19,8 @@ module _ {A : Type 0} where
   Each-right P [] ys a = a
   Each-right P (x ∷ xs) ys a = Each-right P xs ys (a .1)
 
-  pub EachPair-join : (R : A → A → Type 0) (xs ys : List A) → EachPair R xs → EachPair R ys → Each (λ x. Each (R x) ys) xs → EachPair R (xs ++ ys)
+  pub EachPair-join : (R : A → A → Type 0) (xs ys : List A) → EachPair R xs → EachPair R ys → Each (λ x. Each (R x) ys) xs →
+      EachPair R (xs ++ ys)
   EachPair-join R [] ys a b c = b
   EachPair-join R (x ∷ xs) ys a b c = (Each-join (R x) xs ys (a .0) (c .0), EachPair-join R xs ys (a .1) b (c .1))
 

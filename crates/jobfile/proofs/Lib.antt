@@ -7,3 +7,5 @@ pub mod StoredJobs
 pub mod Outcomes
 pub mod LineFaults
 pub mod Refusals
+pub mod Texts
+pub mod Returned

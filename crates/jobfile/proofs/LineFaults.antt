@@ -1,12 +1,11 @@
 -- A line is refused for that of its faults which has the smallest number, and goes through where it has none. Assumes nothing.
 use Prim.Native.Nat.{ℕ, suc, _≤_, _<_}
 use mathlib.Core.Path.{_≡_, refl, sym, ap, subst, _∙_}
-use mathlib.Core.Logic.{⊎-elim}
 use mathlib.Core.Bool.{Bool, true, false, not}
-use mathlib.Core.List.{List, [], _∷_, _++_, List·Memᴰ, append-nil}
+use mathlib.Core.List.{List, [], _∷_, _++_, append-nil}
 use native.Mathlib.Omega.{arith}
 use lib.Dec.{eqb, leb, ltb}
-use lib.ListN.{length, length-append}
+use lib.ListN.{length}
 use borrow.Author.Tests.{leb-true, leb-false, ltb-true, ltb-false, eqb-true, eqb-false, not-false}
 use Rattle.lists.specs.Lists.{Each, allOf}
 use Rattle.lists.proofs.Cases.{by-test}
@@ -15,7 +14,6 @@ use Rattle.board.specs.declared.Net.{Net}
 use Rattle.board.specs.declared.Block.{Block}
 use Rattle.board.specs.Job.{Job}
 use Rattle.board.specs.Length.{lengthOf, shortest, needed}
-use Rattle.board.specs.Accepted.{NetInRange}
 use Rattle.jobfile.specs.declared.Form.{Form}
 use Rattle.jobfile.specs.declared.Form.the-variants as Is
 use Rattle.jobfile.specs.declared.Outcome.{Outcome}
@@ -25,7 +23,7 @@ use Rattle.jobfile.specs.Answers.{numberOf, lineOf}
 use Rattle.jobfile.specs.Stored.{noJob}
 use Rattle.jobfile.specs.Faults.{withForm, jobFrom, jobIn, isBlank, nonBlank, Item, net, block, Ordered, MayFollow, NetFault, net-range, net-count, not-above, left-used, right-used, same-row, no-length, too-few-rows, BlockFault, block-range, block-count, LineFault, not-of-form, rows-range, tracks-range, of-net, of-block}
 use Rattle.jobfile.proofs.Joins.{Each-join, Each-right, allOf-false}
-use Rattle.jobfile.proofs.Tests.{denied, ltb-is, within-is, differ-is, net-range-is, block-range-is, free-is, length-is, last-number, LastNet, last-net}
+use Rattle.jobfile.proofs.Tests.{denied, within-is, differ-is, net-range-is, block-range-is, free-is, length-is, last-number, last-net}
 use Rattle.jobfile.proofs.Outcomes.{same-outcome, number-below}
 
 -- ---- tests in the order of their numbers
@@ -40,7 +38,8 @@ abbrev pub Judged : (Outcome → Type 0) → (State → Type 0) → Next → Typ
 Judged F G (go s) = G s × ((o : Outcome) → F o → ⊥)
 Judged F G (stop o) = Least F o
 
-judged-same : (F H : Outcome → Type 0) (G : State → Type 0) (x : Next) → ((o : Outcome) → F o → H o) → ((o : Outcome) → H o → F o) → Judged F G x → Judged H G x
+judged-same : (F H : Outcome → Type 0) (G : State → Type 0) (x : Next) → ((o : Outcome) → F o → H o) →
+    ((o : Outcome) → H o → F o) → Judged F G x → Judged H G x
 judged-same F H G (go s) f h j = (j .0, λ o p. j .1 o (h o p))
 judged-same F H G (stop o) f h j = record { fault = f o (j .fault); least = λ p q. j .least p (h p q) }
 
@@ -59,7 +58,8 @@ module _ (k : ℕ) (F : Outcome → Type 0) (on-line : (o : Outcome) → F o →
       n (rw q at f))
 
   -- a test that stands for the fault o, where all faults of a smaller number are ruled out
-  unless-judged : (b : Bool) (o : Outcome) (x : Next) → lineOf o ≡ k → Below (numberOf o) → (b ≡ false → F o) → (b ≡ true → F o → ⊥) → (b ≡ true → Below (suc (numberOf o)) → Judged F G x) → Judged F G (unless b o x)
+  unless-judged : (b : Bool) (o : Outcome) (x : Next) → lineOf o ≡ k → Below (numberOf o) → (b ≡ false → F o) →
+      (b ≡ true → F o → ⊥) → (b ≡ true → Below (suc (numberOf o)) → Judged F G x) → Judged F G (unless b o x)
   unfolding unless
   unless-judged true o x l b f n g = g refl (below-next o l b (n refl))
   unless-judged false o x l b f n g =
@@ -109,7 +109,8 @@ module _ (job : Job) (n : Net) (k : ℕ) where
       let l : lastNumber 0 (job .nets) ≡ m .number = ap (lastNumber 0) q ∙ last-number 0 ms m in
       omega (arith, ltb-true (lastNumber 0 (job .nets)) (n .number) e)
 
-  some-above : (ns : List Net) → job .nets ≡ ns → 1 ≤ n .number → n .number ≤ lastNumber 0 ns → NetFault job n k (NumberNotAbove k)
+  some-above : (ns : List Net) → job .nets ≡ ns → 1 ≤ n .number → n .number ≤ lastNumber 0 ns →
+      NetFault job n k (NumberNotAbove k)
   unfolding lastNumber
   some-above [] q a h = absurd (omega arith)
   some-above (m ∷ ns) q a h =
@@ -126,9 +127,10 @@ module _ (job : Job) (n : Net) (k : ℕ) where
       let m = r .0 in
       by-test (eqb (m .left .0) (n .left .0))
       (λ q. left-used m (r .1) (eqb-true _ _ q))
-      (λ q. by-test (eqb (m .right .0) (n .right .0))
+      (λ q.
+      by-test (eqb (m .right .0) (n .right .0))
       (λ p. right-used m (r .1) (eqb-true _ _ p))
-      (λ p. absurd (denied (pinsFree n m) (free-is n m) (r .2) (eqb-false (m .left .0) (n .left .0) q, eqb-false (m .right .0) (n .right .0) p))))
+      (λ p. absurd (denied (pinsFree n m) (free-is n m) (r .2) (eqb-false _ _ q, eqb-false _ _ p))))
 
   no-same : not (eqb (n .left .0) (n .right .0)) ≡ true → NetFault job n k (SameRow k) → ⊥
   no-same e (same-row x) = differ-is (n .left .0) (n .right .0) .0 e x
@@ -243,7 +245,13 @@ ordered-close fs a =
 
 ordered-blank : (last fs : List Form) → Ordered last fs → Ordered last (fs ++ (Is.Blank ∷ []))
 ordered-blank last fs a =
-    record { rows = a .rows; tracks = a .tracks; items = a .items; lines-are = lines-blank fs ∙ a .lines-are; items-are = a .items-are }
+    record {
+      rows = a .rows;
+      tracks = a .tracks;
+      items = a .items;
+      lines-are = lines-blank fs ∙ a .lines-are;
+      items-are = a .items-are;
+    }
 
 -- a blank line changes nothing
 reached-blank : (s : State) (fs : List Form) → Reached s fs → Reached s (fs ++ (Is.Blank ∷ []))
@@ -272,7 +280,8 @@ pub line-from : (above : List Form) (k : ℕ) (f : Form) (o : Outcome) → LineF
 line-from above k f o (not-of-form x) = omega arith
 line-from above k f o (rows-range x) = omega arith
 line-from above k f o (tracks-range x) = omega arith
-line-from above k f o (of-net {i = i} {l = l} {r = r} {lo = lo} {hi = hi} x) = omega (arith, net-from (jobIn above) (netOf i l r lo hi) k o x)
+line-from above k f o (of-net {i = i} {l = l} {r = r} {lo = lo} {hi = hi} x) =
+    omega (arith, net-from (jobIn above) (netOf i l r lo hi) k o x)
 line-from above k f o (of-block {t = t} {a = a} {b = b} x) = omega (arith, block-from (jobIn above) (blockOf t a b) k o x)
 
 pub fault-line : (above : List Form) (k : ℕ) (f : Form) (o : Outcome) → LineFault above k f o → lineOf o ≡ k
@@ -292,7 +301,8 @@ module _ (above : List Form) (k : ℕ) where
   wrong f deny = record { fault = not-of-form deny; least = λ p q. line-from above k f p q }
 
   -- the one test of a form in its place
-  range-judged : (f : Form) (b : Bool) (x : Next) → ((o : Outcome) → LineFault above k f o → 3 ≤ numberOf o) → (b ≡ false → LineFault above k f (OutOfRange k)) → (b ≡ true → Line f x) → Line f (unless b (OutOfRange k) x)
+  range-judged : (f : Form) (b : Bool) (x : Next) → ((o : Outcome) → LineFault above k f o → 3 ≤ numberOf o) →
+      (b ≡ false → LineFault above k f (OutOfRange k)) → (b ≡ true → Line f x) → Line f (unless b (OutOfRange k) x)
   unfolding unless
   range-judged f true x from g h = h refl
   range-judged f false x from g h = record { fault = g refl; least = λ p q. from p q }
@@ -305,7 +315,8 @@ module _ (above : List Form) (k : ℕ) where
   at-start (filled j) x r g = wrong Is.Board (λ m. omega (arith, ap length m, ap length (r .0 .lines-are)))
   at-start (closed j) x r g = wrong Is.Board (λ m. omega (arith, ap length m, ap length (r .0 .lines-are)))
 
-  at-opened : (i : ℕ) (s : State) (x : Next) → Reached s above → (Reached opened above → Line (Is.Rows i) x) → Line (Is.Rows i) (atOpened k s x)
+  at-opened : (i : ℕ) (s : State) (x : Next) → Reached s above → (Reached opened above → Line (Is.Rows i) x) →
+      Line (Is.Rows i) (atOpened k s x)
   unfolding atOpened
   at-opened i start x r g = wrong (Is.Rows i) (λ m. omega (arith, ap length m, ap length (r .0)))
   at-opened i opened x r g = g r
@@ -313,7 +324,8 @@ module _ (above : List Form) (k : ℕ) where
   at-opened i (filled j) x r g = wrong (Is.Rows i) (λ m. omega (arith, ap length m, ap length (r .0 .lines-are)))
   at-opened i (closed j) x r g = wrong (Is.Rows i) (λ m. omega (arith, ap length m, ap length (r .0 .lines-are)))
 
-  at-sized : (t : ℕ) (s : State) (f : ℕ → Next) → Reached s above → ((h : ℕ) → Reached (sized h) above → Line (Is.Tracks t) (f h)) → Line (Is.Tracks t) (atSized k s f)
+  at-sized : (t : ℕ) (s : State) (f : ℕ → Next) → Reached s above →
+      ((h : ℕ) → Reached (sized h) above → Line (Is.Tracks t) (f h)) → Line (Is.Tracks t) (atSized k s f)
   unfolding atSized
   at-sized t start f r g = wrong (Is.Tracks t) (λ m. omega (arith, ap length (m .1), ap length (r .0)))
   at-sized t opened f r g = wrong (Is.Tracks t) (λ m. omega (arith, ap length (m .1), ap length (r .0)))
@@ -321,7 +333,8 @@ module _ (above : List Form) (k : ℕ) where
   at-sized t (filled j) f r g = wrong (Is.Tracks t) (λ m. omega (arith, ap length (m .1), ap length (r .0 .lines-are)))
   at-sized t (closed j) f r g = wrong (Is.Tracks t) (λ m. omega (arith, ap length (m .1), ap length (r .0 .lines-are)))
 
-  at-filled : (x : Form) (s : State) (f : Job → Next) → (MayFollow above x → Ordered [] above) → Reached s above → ((job : Job) → Reached (filled job) above → Line x (f job)) → Line x (atFilled k s f)
+  at-filled : (x : Form) (s : State) (f : Job → Next) → (MayFollow above x → Ordered [] above) → Reached s above →
+      ((job : Job) → Reached (filled job) above → Line x (f job)) → Line x (atFilled k s f)
   unfolding atFilled
   at-filled x start f to r g = wrong x (λ m. omega (arith, ap length (to m .lines-are), ap length (r .0)))
   at-filled x opened f to r g = wrong x (λ m. omega (arith, ap length (to m .lines-are), ap length (r .0)))
@@ -348,15 +361,18 @@ module _ (above : List Form) (k : ℕ) where
   tracks-from t h r o (not-of-form x) = absurd (x (h, r .0))
   tracks-from t h r o (tracks-range x) = omega arith
 
-  no-tracks-fault : (t h : ℕ) → Reached (sized h) above → (1 ≤ t) × (t ≤ 128) → (o : Outcome) → LineFault above k (Is.Tracks t) o → ⊥
+  no-tracks-fault : (t h : ℕ) → Reached (sized h) above → (1 ≤ t) × (t ≤ 128) → (o : Outcome) →
+      LineFault above k (Is.Tracks t) o → ⊥
   no-tracks-fault t h r a o (not-of-form x) = x (h, r .0)
   no-tracks-fault t h r a o (tracks-range x) = x a
 
-  net-only : (i l r lo hi : ℕ) → Ordered [] above → (o : Outcome) → LineFault above k (Is.Net i l r lo hi) o → NetFault (jobIn above) (netOf i l r lo hi) k o
+  net-only : (i l r lo hi : ℕ) → Ordered [] above → (o : Outcome) → LineFault above k (Is.Net i l r lo hi) o →
+      NetFault (jobIn above) (netOf i l r lo hi) k o
   net-only i l r lo hi a o (not-of-form x) = absurd (x a)
   net-only i l r lo hi a o (of-net x) = x
 
-  block-only : (t a b : ℕ) → Ordered [] above → (o : Outcome) → LineFault above k (Is.Block t a b) o → BlockFault (jobIn above) (blockOf t a b) k o
+  block-only : (t a b : ℕ) → Ordered [] above → (o : Outcome) → LineFault above k (Is.Block t a b) o →
+      BlockFault (jobIn above) (blockOf t a b) k o
   block-only t a b q o (not-of-form x) = absurd (x q)
   block-only t a b q o (of-block x) = x
 
@@ -378,37 +394,48 @@ module _ (above : List Form) (k : ℕ) where
         no-rows-fault h r (within-is 1 1024 h .0 e),
       ))
 
-  tracks-line : (t h : ℕ) → Reached (sized h) above → Line (Is.Tracks t) (unless (within 1 128 t) (OutOfRange k) (go (filled (emptyBoard (boardOf h t)))))
+  tracks-line : (t h : ℕ) → Reached (sized h) above →
+      Line (Is.Tracks t) (unless (within 1 128 t) (OutOfRange k) (go (filled (emptyBoard (boardOf h t)))))
   unfolding withForm
   tracks-line t h r =
       range-judged (Is.Tracks t) (within 1 128 t) (go (filled (emptyBoard (boardOf h t)))) (tracks-from t h r)
       (λ e. tracks-range (denied _ (within-is 1 128 t) e))
       (λ e. (
         (
-          record { rows = h; tracks = t; items = []; lines-are = lines-more above (Is.Tracks t) refl ∙ (rw (r .0)); items-are = tt },
+          record {
+            rows = h;
+            tracks = t;
+            items = [];
+            lines-are = lines-more above (Is.Tracks t) refl ∙ (rw (r .0));
+            items-are = tt;
+          },
           job-more noJob above (Is.Tracks t) ∙ (rw (r .1)),
         ),
         no-tracks-fault t h r (within-is 1 128 t .0 e),
       ))
 
-  net-line-judged : (i l r lo hi : ℕ) (job : Job) → Reached (filled job) above → Line (Is.Net i l r lo hi) (addNet k (netOf i l r lo hi) job)
+  net-line-judged : (i l r lo hi : ℕ) (job : Job) → Reached (filled job) above →
+      Line (Is.Net i l r lo hi) (addNet k (netOf i l r lo hi) job)
   unfolding withForm
   net-line-judged i l r lo hi job a =
       let n = netOf i l r lo hi in
       let f = Is.Net i l r lo hi in
       let G : State → Type 0 = λ s. Reached s (above ++ (f ∷ [])) in
       subst (λ j. Line (Is.Net i l r lo hi) (addNet k (netOf i l r lo hi) j)) (a .1)
-      (judged-same (NetFault (jobIn above) n k) (LineFault above k f) G (addNet k n (jobIn above)) (λ o x. of-net x) (net-only i l r lo hi (a .0))
+      (judged-same (NetFault (jobIn above) n k) (LineFault above k f) G (addNet k n (jobIn above))
+      (λ o x. of-net x) (net-only i l r lo hi (a .0))
       (net-judged (jobIn above) n k G (ordered-item above f refl net (a .0), job-more noJob above f)))
 
-  block-line-judged : (t a b : ℕ) (job : Job) → Reached (filled job) above → Line (Is.Block t a b) (addBlock k (blockOf t a b) job)
+  block-line-judged : (t a b : ℕ) (job : Job) → Reached (filled job) above →
+      Line (Is.Block t a b) (addBlock k (blockOf t a b) job)
   unfolding withForm
   block-line-judged t a b job q =
       let x = blockOf t a b in
       let f = Is.Block t a b in
       let G : State → Type 0 = λ s. Reached s (above ++ (f ∷ [])) in
       subst (λ j. Line (Is.Block t a b) (addBlock k (blockOf t a b) j)) (q .1)
-      (judged-same (BlockFault (jobIn above) x k) (LineFault above k f) G (addBlock k x (jobIn above)) (λ o x. of-block x) (block-only t a b (q .0))
+      (judged-same (BlockFault (jobIn above) x k) (LineFault above k f) G (addBlock k x (jobIn above))
+      (λ o x. of-block x) (block-only t a b (q .0))
       (block-judged (jobIn above) x k G (ordered-item above f refl block (q .0), job-more noJob above f)))
 
   close-line : (job : Job) → Reached (filled job) above → Line Is.Close (go (closed job))

@@ -11,7 +11,10 @@ use Rattle.jobfile.specs.Answers.{numberOf, lineOf}
 -- the outcome of a number and a line
 abbrev outcomeOf : ℕ → ℕ → Outcome
 outcomeOf i k =
-    getD (Accepted ∷ TooLong ∷ NotOfForm k ∷ OutOfRange k ∷ TooMany k ∷ NumberNotAbove k ∷ PinUsed k ∷ SameRow k ∷ NoLength k ∷ TooFewRows k ∷ []) i Accepted
+    getD
+    (Accepted ∷ TooLong ∷ NotOfForm k ∷ OutOfRange k ∷ TooMany k ∷ NumberNotAbove k ∷ PinUsed k ∷ SameRow k ∷ NoLength k ∷
+    TooFewRows k ∷ [])
+    i Accepted
 
 outcome-of : (o : Outcome) → outcomeOf (numberOf o) (lineOf o) ≡ o
 outcome-of Accepted = refl

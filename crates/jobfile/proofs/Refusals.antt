@@ -1,7 +1,7 @@
--- A text is refused for its first fault, and is accepted exactly where it has none, as the job that its lines hold. Assumes nothing.
-use Prim.Native.Nat.{ℕ, suc, _+_, _≤_, _<_}
+-- A text is refused for its first fault, and accepted, as the job that its lines hold, exactly where it has none. Assumes nothing.
+use Prim.Native.Nat.{ℕ, suc, _≤_, _<_}
 use mathlib.Core.Path.{_≡_, refl, sym, ap, subst, _∙_}
-use mathlib.Core.Logic.{_⊎_, inl, inr, ⊎-elim}
+use mathlib.Core.Logic.{_↔_, _⊎_, inl, inr, ⊎-elim}
 use mathlib.Core.List.{List, [], _∷_, _++_, map, append-assoc, append-nil}
 use native.Mathlib.Omega.{arith}
 use lib.Dec.{leb}
@@ -18,15 +18,15 @@ use Rattle.jobfile.specs.Forms.{readForm}
 use Rattle.jobfile.specs.Read.{State, start, opened, sized, filled, closed, Next, go, stop, step, Read, accepted, refused, ended, follow, readFrom, readJob}
 use Rattle.jobfile.specs.Answers.{numberOf, lineOf}
 use Rattle.jobfile.specs.Faults.{formsOf, jobFrom, jobIn, nonBlank, Ordered, LineFault, Fault, too-long, on-line, ends-early, FirstFault}
-use Rattle.jobfile.proofs.Accepts.{not-refused}
 use Rattle.jobfile.proofs.Outcomes.{same-outcome}
-use Rattle.jobfile.proofs.LineFaults.{Judged, Reached, not-both, line-from, fault-line, Line, step-judged}
+use Rattle.jobfile.proofs.LineFaults.{Reached, not-both, line-from, fault-line, Line, step-judged}
 
 -- ---- faults below some lines
 
 -- the lines fs, which stand below the lines `above`, have the fault o
 data FaultIn (above fs : List Form) (o : Outcome) : Type 0 where
-  line : (ms : List Form) (f : Form) (bs : List Form) → fs ≡ ms ++ (f ∷ bs) → LineFault (above ++ ms) (suc (length (above ++ ms))) f o → FaultIn above fs o
+  line : (ms : List Form) (f : Form) (bs : List Form) → fs ≡ ms ++ (f ∷ bs) →
+      LineFault (above ++ ms) (suc (length (above ++ ms))) f o → FaultIn above fs o
   end : o ≡ NotOfForm (suc (length (above ++ fs))) → (Ordered (Is.Close ∷ []) (above ++ fs) → ⊥) → FaultIn above fs o
 
 -- and it is the first
@@ -38,7 +38,8 @@ record FirstIn (above fs : List Form) (o : Outcome) : Type 0 where
 nil-cons : (ms bs : List Form) (f : Form) → [] ≡ ms ++ (f ∷ bs) → ⊥
 nil-cons ms bs f e = omega (arith, ap length e, length-append ms (f ∷ bs))
 
-in-nil : (above : List Form) (o : Outcome) → FaultIn above [] o → (o ≡ NotOfForm (suc (length above))) × (Ordered (Is.Close ∷ []) above → ⊥)
+in-nil : (above : List Form) (o : Outcome) → FaultIn above [] o →
+    (o ≡ NotOfForm (suc (length above))) × (Ordered (Is.Close ∷ []) above → ⊥)
 in-nil above o (line ms f bs e x) = absurd (nil-cons ms bs f e)
 in-nil above o (end q x) = (rw append-nil at q, rw append-nil at x)
 
@@ -51,7 +52,8 @@ later above fs f o (end q x) =
     let a = append-assoc above (f ∷ []) fs in
     end (rw a at q) (rw a at x)
 
-in-cons : (above fs : List Form) (f : Form) (o : Outcome) → FaultIn above (f ∷ fs) o → LineFault above (suc (length above)) f o ⊎ FaultIn (above ++ (f ∷ [])) fs o
+in-cons : (above fs : List Form) (f : Form) (o : Outcome) → FaultIn above (f ∷ fs) o →
+    LineFault above (suc (length above)) f o ⊎ FaultIn (above ++ (f ∷ [])) fs o
 in-cons above fs f o (line [] g bs e x) = let q : g ≡ f = cc in inl (rw (q, append-nil) at x)
 in-cons above fs f o (line (m ∷ ms) g bs e x) =
     let q : m ≡ f = cc in
@@ -74,7 +76,8 @@ abbrev Right : List Form → List Form → Read → Type 0
 Right above fs (accepted job) = ((o : Outcome) → FaultIn above fs o → ⊥) × (job ≡ jobIn (above ++ fs))
 Right above fs (refused o) = FirstIn above fs o
 
-right-early : (above : List Form) → (Ordered (Is.Close ∷ []) above → ⊥) → Right above [] (refused (NotOfForm (suc (length above))))
+right-early : (above : List Form) → (Ordered (Is.Close ∷ []) above → ⊥) →
+    Right above [] (refused (NotOfForm (suc (length above))))
 right-early above x =
     record {
       fault = end (rw append-nil) (rw append-nil x);
@@ -92,7 +95,8 @@ ended-right above (closed job) r = (λ o q. in-nil above o q .1 (r .0), sym (r .
 
 module _ (above fs : List Form) (f : Form) where
   -- a line without a fault above them
-  right-later : (y : Read) → ((o : Outcome) → LineFault above (suc (length above)) f o → ⊥) → Right (above ++ (f ∷ [])) fs y → Right above (f ∷ fs) y
+  right-later : (y : Read) → ((o : Outcome) → LineFault above (suc (length above)) f o → ⊥) → Right (above ++ (f ∷ [])) fs y →
+      Right above (f ∷ fs) y
   right-later (accepted job) none r = (
     λ o q. ⊎-elim (λ x. none o x) (λ x. r .0 o x) (in-cons above fs f o q),
     rw (append-assoc above (f ∷ []) fs) at (r .1),
@@ -119,7 +123,8 @@ module _ (above fs : List Form) (f : Form) where
             (in-cons above fs f p q);
       }
 
-from-right : (above : List Form) (s : State) (ls : List (List ℕ)) → Reached s above → Right above (map readForm ls) (readFrom (suc (length above)) s ls)
+from-right : (above : List Form) (s : State) (ls : List (List ℕ)) → Reached s above →
+    Right above (map readForm ls) (readFrom (suc (length above)) s ls)
 unfolding readFrom
 from-right above s [] r = ended-right above s r
 from-right above s (l ∷ ls) r =
@@ -145,7 +150,7 @@ module _ (text : List ℕ) where
   fault-in h o (on-line above below f e x) = line above f below e x
   fault-in h o (ends-early k e x) = end (ap NotOfForm e) x
 
-  fault-from : (o : Outcome) → Fault text o → 1 ≤ numberOf o
+  pub fault-from : (o : Outcome) → Fault text o → 1 ≤ numberOf o
   fault-from o (too-long l) = omega arith
   fault-from o (on-line above below f e x) = omega (arith, line-from above (suc (length above)) f o x)
   fault-from o (ends-early k e x) = omega arith
@@ -207,3 +212,12 @@ module _ (text : List ℕ) where
       by : (y : Read) → Answered y → y ≡ accepted (jobIn (formsOf text))
       by (accepted job) a = ap accepted (a .1)
       by (refused o) a = absurd (none o (a .fault))
+
+  -- length first: refusal 1 is for all texts above 64,000 bytes and for no other
+  long-fault : (o : Outcome) → o ≡ TooLong → Fault text o → 64000 < length text
+  long-fault o q (too-long h) = h
+  long-fault o q (on-line above below f e x) = absurd (omega (arith, ap lineOf q, fault-line above (suc (length above)) f o x))
+  long-fault o q (ends-early k e x) = absurd (omega (arith, ap lineOf q))
+
+  pub long-refused : (readJob text ≡ refused TooLong) ↔ (64000 < length text)
+  long-refused = (λ e. long-fault TooLong refl (read-refused TooLong e .fault), λ h. first-refused TooLong (long-answered h))

@@ -1,9 +1,8 @@
 -- The shortest shape of a net is at least min long, and no shape of such a length is shorter. Assumes nothing.
 use Prim.Native.Nat.{_+_, _-_, _/_, _≤_, _<_}
-use mathlib.Core.Path.{_≡_, refl}
 use native.Mathlib.Omega.{arith}
 use lib.Dec.{leb}
-use borrow.Author.Tests.{leb-true, leb-false, le-leb, lt-leb}
+use borrow.Author.Tests.{leb-true, leb-false}
 use Rattle.lists.proofs.Cases.{by-test}
 use Rattle.board.specs.declared.Board.{Board}
 use Rattle.board.specs.declared.Net.{Net}
@@ -21,9 +20,11 @@ shortest-cases board n P f g =
 pub shortest-long : (board : Board) (n : Net) → n .min ≤ lengthOf board n (shortest board n)
 shortest-long board n = shortest-cases board n (λ s. n .min ≤ lengthOf board n s) (λ h. omega arith) (λ h. omega arith)
 
-shortest-below : (board : Board) (n : Net) (s : Shape) → n .min ≤ lengthOf board n s → lengthOf board n (shortest board n) ≤ lengthOf board n s
+shortest-below : (board : Board) (n : Net) (s : Shape) → n .min ≤ lengthOf board n s →
+    lengthOf board n (shortest board n) ≤ lengthOf board n s
 shortest-below board n Plain a = shortest-cases board n (λ o. lengthOf board n o ≤ lengthOf board n Plain) (λ h. omega arith) (λ h. omega arith)
 shortest-below board n (Stretched e) a = shortest-cases board n (λ o. lengthOf board n o ≤ lengthOf board n (Stretched e)) (λ h. omega arith) (λ h. omega arith)
 
-pub shortest-least : (board : Board) (n : Net) (s : Shape) → Allowed board n s → lengthOf board n (shortest board n) ≤ lengthOf board n s
+pub shortest-least : (board : Board) (n : Net) (s : Shape) → Allowed board n s →
+    lengthOf board n (shortest board n) ≤ lengthOf board n s
 shortest-least board n s a = shortest-below board n s (a .long)

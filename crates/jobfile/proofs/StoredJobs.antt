@@ -1,15 +1,15 @@
--- The job by value: it stands for its job, its arrays are full, and a further net or block goes into the first unused slot. Assumes nothing.
+-- The job by value: it stands for its job, its arrays are full, and a net or block more goes into the first unused slot. Assumes
+-- nothing.
 use Prim.Native.Nat.{ℕ, suc, _+_, _-_, _≤_, _<_}
-use mathlib.Core.Path.{_≡_, refl, sym, ap, _∙_}
+use mathlib.Core.Path.{_≡_, refl, sym, _∙_}
 use mathlib.Core.List.{List, [], _∷_, _++_, append-assoc}
 use native.Mathlib.Omega.{arith}
-use lib.ListN.{length, take, replicate, set, length-append, length-replicate}
+use lib.ListN.{length, replicate, set, length-append, length-replicate}
 use lib.Seq.{take-append-seam, set-at}
 use Rattle.board.specs.declared.Net.{Net}
 use Rattle.board.specs.declared.Block.{Block}
 use Rattle.board.specs.Job.{Job}
 use Rattle.board.specs.Accepted.{Accepted}
-use Rattle.jobfile.specs.declared.StoredJob.{StoredJob}
 use Rattle.jobfile.specs.Read.{withNet, withBlock}
 use Rattle.jobfile.specs.Stored.{jobOf, storedOf, noNet, noBlock}
 
@@ -32,7 +32,8 @@ module _ {A : Type 0} (most : ℕ) (xs : List A) (none : A) where
   filled-length h = omega (arith, length-append xs (replicate (most - length xs) none), length-replicate (most - length xs) none)
 
   -- one more element takes the first slot that is not used
-  filled-next : (x : A) → length xs < most → set filledUp (length xs) x ≡ (xs ++ (x ∷ [])) ++ replicate (most - length (xs ++ (x ∷ []))) none
+  filled-next : (x : A) → length xs < most →
+      set filledUp (length xs) x ≡ (xs ++ (x ∷ [])) ++ replicate (most - length (xs ++ (x ∷ []))) none
   filled-next x h =
       let r = most - suc (length xs) in
       let e : most - length xs ≡ suc r = omega arith in

@@ -3,19 +3,16 @@ use Prim.Native.Nat.{ℕ, _≤_, _<_}
 use mathlib.Core.Path.{_≡_, refl, sym, _∙_}
 use mathlib.Core.Logic.{_↔_}
 use mathlib.Core.Bool.{Bool, true, false, not, _&&_, true≢false}
-use mathlib.Core.List.{List, [], _∷_, _++_, List·Memᴰ}
+use mathlib.Core.List.{List, [], _∷_, _++_}
 use native.Mathlib.Omega.{arith}
 use lib.Dec.{eqb, leb, ltb}
-use lib.ListN.{length}
-use borrow.Author.Tests.{leb-true, le-leb, ltb-true, lt-ltb, eqb-true, eqb-false, eq-eqb, ne-eqb, not-true}
-use Rattle.lists.specs.Lists.{Each, allOf}
-use Rattle.lists.proofs.Cases.{by-test, and-split, and-both}
-use Rattle.lists.proofs.Laws.{Each-of, allOf-Each}
+use borrow.Author.Tests.{leb-true, le-leb, ltb-true, lt-ltb, eqb-false, ne-eqb, not-true}
+use Rattle.lists.proofs.Cases.{and-split, and-both}
 use Rattle.board.specs.declared.Board.{Board}
 use Rattle.board.specs.declared.Net.{Net}
 use Rattle.board.specs.declared.Block.{Block}
 use Rattle.board.specs.declared.Shape.{Shape}
-use Rattle.board.specs.Length.{Allowed, lengthOf, shortest, needed}
+use Rattle.board.specs.Length.{Allowed, lengthOf, shortest}
 use Rattle.board.specs.Accepted.{NetInRange, BlockInRange}
 use Rattle.jobfile.specs.Read.{within, netInRange, blockInRange, pinsFree, lastNumber}
 use Rattle.jobfile.proofs.Shortest.{shortest-long, shortest-least}
@@ -55,7 +52,12 @@ net-range-is board n =
     (leb-is (n .max) 4095)
     in (
       λ h. let r = t .0 h in
-          record { number-range = r .0 .0 .0 .0; left-range = r .0 .0 .0 .1; right-range = r .0 .0 .1; bounds-range = (r .0 .1, r .1) },
+          record {
+            number-range = r .0 .0 .0 .0;
+            left-range = r .0 .0 .0 .1;
+            right-range = r .0 .0 .1;
+            bounds-range = (r .0 .1, r .1);
+          },
       λ r. t .1 ((((r .number-range, r .left-range), r .right-range), r .bounds-range .0), r .bounds-range .1),
     )
 
@@ -102,7 +104,8 @@ free-is n m =
     (differ-is (m .left .0) (n .left .0)) (differ-is (m .right .0) (n .right .0))
 
 -- refusal 8: some length is allowed
-pub length-is : (board : Board) (n : Net) → (leb (lengthOf board n (shortest board n)) (n .max) ≡ true) ↔ ((s : Shape) × Allowed board n s)
+pub length-is : (board : Board) (n : Net) →
+    (leb (lengthOf board n (shortest board n)) (n .max) ≡ true) ↔ ((s : Shape) × Allowed board n s)
 length-is board n = (
   λ h. (shortest board n, record { long = shortest-long board n; short = leb-true _ _ h }),
   λ r. let l = shortest-least board n (r .0) (r .1) in

@@ -1,4 +1,4 @@
--- Document 01, "Operations", read: the number and the line of each outcome. This is the one place that gives the document's numbers.
+-- Document 01, "Operations", read: the number and the line of each outcome. Only this definition gives the document's numbers.
 use Prim.Native.Nat.{ℕ}
 use Rattle.jobfile.specs.declared.Outcome.{Outcome}
 use Rattle.jobfile.specs.declared.Outcome.the-variants.{Accepted, TooLong, NotOfForm, OutOfRange, TooMany, NumberNotAbove, PinUsed, SameRow, NoLength, TooFewRows}

@@ -17,7 +17,7 @@ use Rattle.jobfile.specs.declared.Form.the-variants as Is
 use Rattle.jobfile.specs.declared.Outcome.{Outcome}
 use Rattle.jobfile.specs.declared.Outcome.the-variants.{TooLong, NotOfForm, OutOfRange, TooMany, NumberNotAbove, PinUsed, SameRow, NoLength, TooFewRows}
 use Rattle.jobfile.specs.Forms.{readForm}
-use Rattle.jobfile.specs.Read.{netOf, blockOf, boardOf, emptyBoard, withNet, withBlock}
+use Rattle.jobfile.specs.Read.{netOf, blockOf, boardOf, withNet, withBlock}
 use Rattle.jobfile.specs.Answers.{numberOf, lineOf}
 use Rattle.jobfile.specs.Stored.{noJob}
 
@@ -86,7 +86,8 @@ MayFollow fs Is.Other = ⊥
 pub data NetFault (job : Job) (n : Net) (k : ℕ) : Outcome → Type 0 where
   net-range : (NetInRange (job .board) n → ⊥) → NetFault job n k (OutOfRange k)
   net-count : 512 ≤ length (job .nets) → NetFault job n k (TooMany k)
-  not-above : (before : List Net) (m : Net) → job .nets ≡ before ++ (m ∷ []) → n .number ≤ m .number → NetFault job n k (NumberNotAbove k)
+  not-above : (before : List Net) (m : Net) → job .nets ≡ before ++ (m ∷ []) → n .number ≤ m .number →
+      NetFault job n k (NumberNotAbove k)
   left-used : (m : Net) → List·Memᴰ m (job .nets) → m .left .0 ≡ n .left .0 → NetFault job n k (PinUsed k)
   right-used : (m : Net) → List·Memᴰ m (job .nets) → m .right .0 ≡ n .right .0 → NetFault job n k (PinUsed k)
   same-row : n .left .0 ≡ n .right .0 → NetFault job n k (SameRow k)
@@ -103,13 +104,15 @@ pub data LineFault (above : List Form) (k : ℕ) : Form → Outcome → Type 0 w
   not-of-form : {f : Form} → (MayFollow above f → ⊥) → LineFault above k f (NotOfForm k)
   rows-range : {h : ℕ} → ((1 ≤ h) × (h ≤ 1024) → ⊥) → LineFault above k (Is.Rows h) (OutOfRange k)
   tracks-range : {t : ℕ} → ((1 ≤ t) × (t ≤ 128) → ⊥) → LineFault above k (Is.Tracks t) (OutOfRange k)
-  of-net : {i l r lo hi : ℕ} {o : Outcome} → NetFault (jobIn above) (netOf i l r lo hi) k o → LineFault above k (Is.Net i l r lo hi) o
+  of-net : {i l r lo hi : ℕ} {o : Outcome} → NetFault (jobIn above) (netOf i l r lo hi) k o →
+      LineFault above k (Is.Net i l r lo hi) o
   of-block : {t a b : ℕ} {o : Outcome} → BlockFault (jobIn above) (blockOf t a b) k o → LineFault above k (Is.Block t a b) o
 
 -- the faults of a text: its length, those of its lines, and that it ends before its last line
 pub data Fault (text : List ℕ) : Outcome → Type 0 where
   too-long : 64000 < length text → Fault text TooLong
-  on-line : (above below : List Form) (f : Form) {o : Outcome} → formsOf text ≡ above ++ (f ∷ below) → LineFault above (suc (length above)) f o → Fault text o
+  on-line : (above below : List Form) (f : Form) {o : Outcome} → formsOf text ≡ above ++ (f ∷ below) →
+      LineFault above (suc (length above)) f o → Fault text o
   ends-early : (k : ℕ) → k ≡ suc (length (formsOf text)) → (Ordered (Is.Close ∷ []) (formsOf text) → ⊥) → Fault text (NotOfForm k)
 
 -- the fault that counts: no fault is on a line before it, and none on its line has a smaller number

@@ -34,8 +34,8 @@ pub data Next : Type 0 where
 unfoldable pub unless : Bool → Outcome → Next → Next
 unless passed o x = cond passed x (stop o)
 
--- `(board` stands first, `(rows H)` behind it, `(tracks K)` behind that, then nets, blocks and the closing bracket; elsewhere line k is
--- not of the form
+-- `(board` stands first, `(rows H)` behind it, `(tracks K)` behind that, then nets, blocks and the closing bracket; anywhere else
+-- line k is not of the form
 unfoldable pub atStart : ℕ → State → Next → Next
 atStart k start x = x
 atStart k opened x = stop (NotOfForm k)

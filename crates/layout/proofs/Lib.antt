@@ -1,0 +1,2 @@
+-- Layouts and their text are the same thing.
+pub mod RoundTrip

@@ -1,0 +1,1 @@
+// Layouts: the tree of a layout, its text, and drawings of placements; definitions in specs/, their theorems in proofs/.

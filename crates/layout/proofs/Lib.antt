@@ -1,2 +1,4 @@
--- Layouts and their text are the same thing.
+-- Layouts and their text are the same thing, and so are placements and their drawings.
 pub mod RoundTrip
+pub mod DrawnOnce
+pub mod DrawnLength

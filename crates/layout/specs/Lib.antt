@@ -1,4 +1,6 @@
--- Document 01, "Drawing": layouts and their text.
+-- Document 01, "Drawing": layouts, their text, and drawings of placements.
 pub mod Tree
 pub mod LayoutText
 pub mod ReadBack
+pub mod Drawing
+pub mod Drawn

@@ -2,6 +2,7 @@
 pub mod ShortestShape
 pub mod Tops
 pub mod Lengths
+pub mod SameNumber
 pub mod WorkedBoard
 pub mod RivalTests
 pub mod RivalFacts

@@ -14,15 +14,16 @@ use Rattle.board.specs.declared.Net.{Net}
 use Rattle.board.specs.Length.{Allowed, shortest, worth, upper}
 use Rattle.board.specs.Job.{Job}
 use Rattle.board.specs.Placement.{Placement, Legal}
-use Rattle.board.specs.Rival.{Apart, Rival, rivalSum}
+use Rattle.board.specs.Rival.{Apart, Rival, rivalSum, worthSum}
 use Rattle.board.specs.Unbeaten.{FilledTrack, numbers, numbersOn}
 use Rattle.board.specs.Accepted.{Accepted}
 use Rattle.board.proofs.ShortestShape.{span-add}
+use Rattle.board.proofs.SameNumber.{same-number}
 use Rattle.packing.specs.Fits.{isOn}
 use Rattle.packing.specs.Walk.{wiresOf}
 use Rattle.packing.proofs.Fitting.{not-on}
 use Rattle.planning.specs.Plan.{filledTrack, planFrom, planOf}
-use Rattle.planning.specs.Loose.{without, looseOf, worthSum, sumOfTracks}
+use Rattle.planning.specs.Loose.{without, looseOf, sumOfTracks}
 use Rattle.planning.proofs.PlanUnbeaten.{all-allowed, track-optimal}
 
 -- ---- taking one net out
@@ -50,22 +51,6 @@ on-move x [] b n = refl
 on-move x (y ∷ on) b n =
     let h = on-move x on b n in
     by-test (eqb (n .number) y) (λ e. rw e (or-true (eqb (n .number) x))) (λ e. rw e h)
-
--- nets with one number are one net
-pub same-number : (ns : List Net) → EachPair (λ a b. a .number < b .number) ns → (m n : Net) → List·Memᴰ m ns → List·Memᴰ n ns → m .number ≡ n .number → m ≡ n
-same-number [] r m n i k q = absurd (List·Memᴰ·not-nil i)
-same-number (x ∷ xs) r m n i k q =
-    let above : (y : Net) → List·Memᴰ y xs → x .number < y .number = λ y j. Each-at (λ z. x .number < z .number) xs y (r .0) j in
-    ⊎-elim
-    (λ (a : m ≡ x). ⊎-elim
-    (λ (b : n ≡ x). a ∙ sym b)
-    (λ k′. absurd (omega (arith, above n k′, ap (λ (z : Net). z .number) a)))
-    (List·Memᴰ·cases-cons k))
-    (λ i′. ⊎-elim
-    (λ (b : n ≡ x). absurd (omega (arith, above m i′, ap (λ (z : Net). z .number) b)))
-    (λ k′. same-number xs (r .1) m n i′ k′ q)
-    (List·Memᴰ·cases-cons k))
-    (List·Memᴰ·cases-cons i)
 
 module _ (job : Job) where
   take-out : (on : List ℕ) (ns : List Net) (n : Net) → EachPair (λ a b. a .number < b .number) ns → List·Memᴰ n ns → isOn on n ≡ false →

@@ -2,9 +2,7 @@
 use Prim.Native.Nat.{ℕ, _+_}
 use mathlib.Core.Bool.{cond}
 use mathlib.Core.List.{List, [], _∷_}
-use Rattle.board.specs.declared.Board.{Board}
 use Rattle.board.specs.declared.Net.{Net}
-use Rattle.board.specs.Length.{worth}
 use Rattle.board.specs.Job.{Job}
 use Rattle.board.specs.Unbeaten.{FilledTrack, numbersOn}
 use Rattle.packing.specs.Fits.{isOn}
@@ -17,11 +15,6 @@ without on (n ∷ ns) = cond (isOn on n) (without on ns) (n ∷ without on ns)
 -- the loose nets of a plan
 unfoldable pub looseOf : Job → List FilledTrack → List Net
 looseOf job plan = without (numbersOn plan) (job .nets)
-
--- what nets are worth together
-unfoldable pub worthSum : Board → List Net → ℕ
-worthSum board [] = 0
-worthSum board (n ∷ ns) = worth board n + worthSum board ns
 
 -- all sums of a plan
 unfoldable pub sumOfTracks : List FilledTrack → ℕ

@@ -1,0 +1,4 @@
+-- What holds of every sound layout.
+pub mod Joins
+pub mod Nets
+pub mod Balance

@@ -1,0 +1,47 @@
+-- Document 01, "A sound layout": rival sequences and sums over drawn wires.
+use Prim.Native.Nat.{ℕ, _+_}
+use mathlib.Core.Path.{_≡_}
+use mathlib.Core.Option.{Option, none, some}
+use mathlib.Core.List.{List, [], _∷_, _++_, map}
+use Rattle.board.specs.declared.Net.{Net}
+use Rattle.board.specs.Length.{worth}
+use Rattle.board.specs.Job.{Job}
+use Rattle.board.specs.Placement.{Placement}
+use Rattle.board.specs.Rival.{Rival}
+use Rattle.layout.specs.Tree.{Wire, DrawnTrack, Layout}
+use Rattle.layout.specs.Drawing.{wireOf}
+use Rattle.layout.specs.Drawn.{netOf}
+
+-- the wires ws are a rival sequence for track t, where the nets with the numbers `earlier` stand on earlier tracks
+pub record RivalWires (job : Job) (earlier : List ℕ) (t : ℕ) (ws : List Wire) : Type 0 where
+  pub places : List Placement
+  pub rival : Rival job earlier t places
+  pub drawn : ws ≡ map (wireOf (job .board) t) places
+
+-- what the net with number k is worth, 0 if no net has it
+unfoldable pub worthBy : Job → Option Net → ℕ
+worthBy job none = 0
+worthBy job (some n) = worth (job .board) n
+
+unfoldable pub worthOf : Job → ℕ → ℕ
+worthOf job k = worthBy job (netOf job k)
+
+-- a sum over numbers
+unfoldable pub sumOver : (ℕ → ℕ) → List ℕ → ℕ
+sumOver f [] = 0
+sumOver f (k ∷ ks) = f k + sumOver f ks
+
+-- the numbers of wires, of the wires of tracks, and of all lines
+abbrev pub wireNumbers : List Wire → List ℕ
+wireNumbers ws = map (λ w. w .number) ws
+
+unfoldable pub trackNumbers : List DrawnTrack → List ℕ
+trackNumbers [] = []
+trackNumbers (tr ∷ trs) = wireNumbers (tr .wires) ++ trackNumbers trs
+
+unfoldable pub lineNumbers : Layout → List ℕ
+lineNumbers l = trackNumbers (l .tracks) ++ l .loose
+
+-- the sum of wires: each counts by its number
+unfoldable pub wiresSum : Job → List Wire → ℕ
+wiresSum job ws = sumOver (worthOf job) (wireNumbers ws)

@@ -2,3 +2,4 @@
 pub mod Joins
 pub mod Nets
 pub mod Balance
+pub mod Bounds

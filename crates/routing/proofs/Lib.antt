@@ -1,0 +1,3 @@
+-- What route writes is sound and unbeaten.
+pub mod RouteSound
+pub mod RouteUnbeaten

@@ -1,0 +1,2 @@
+-- Document 01, "Drawing": the text that route writes.
+pub mod Route

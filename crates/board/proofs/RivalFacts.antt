@@ -5,7 +5,7 @@ use mathlib.Core.Path.{_≡_, refl, ap, ap₂}
 use mathlib.Core.Bool.{true, false}
 use mathlib.Core.List.{List, [], _∷_, map, List·Memᴰ}
 use native.Mathlib.Omega.{arith}
-use Rattle.lists.specs.Lists.{Each, EachPair}
+use Rattle.lists.specs.Lists.{Each, EachPair, anyOf, allOf}
 use Rattle.lists.proofs.Laws.{Each-both, Each-at}
 use Rattle.board.specs.declared.Board.{Board}
 use Rattle.board.specs.declared.Net.{Net}
@@ -17,7 +17,8 @@ use Rattle.board.specs.Placement.{Placement, Legal, bottom}
 use Rattle.board.specs.Precedence.{Precedes}
 use Rattle.board.specs.Rival.{Placeable, Apart, Rival, rivalSum}
 use Rattle.board.proofs.WorkedBoard.{workedBoard, workedBlock, workedJob, net1, net2, net3, net4, net5}
-use Rattle.board.proofs.RivalTests.{brokenClauses, rival-exact, isEligible, BreaksOnly, breaks-only}
+use Rattle.board.specs.Tests.{isOn, isBefore, isReady, isEligible}
+use Rattle.board.proofs.RivalTests.{brokenClauses, rival-exact, BreaksOnly, breaks-only}
 use Rattle.board.proofs.RivalTests.Clause.{net-of-job, length-from-min, length-to-max, top-from-row-one, top-to-upper, bottom-from-lower, bottom-to-last-row, clear-of-blocks, on-no-earlier-track, preceding-on-earlier-tracks, tops-rise, no-shared-row}
 
 -- a net drawn in a shape, with its uppermost row there
@@ -185,7 +186,7 @@ shared-end-row = breaks-only workedJob [] 1 _ no-shared-row refl
 
 covers-upper : (board : Board) (p : Placement) → Legal board p → (p .top ≤ upper (p .net)) × (upper (p .net) ≤ bottom p)
 unfolding upper lower
-covers-upper board p l = (l .over-upper, omega (arith, l .over-lower))
+covers-upper board p l = (l .over-upper, omega (arith, l .under-lower))
 
 apart-nets : (board : Board) (p q : Placement) → Legal board p → Legal board q → Apart p q → p .net ≡ q .net → ⊥
 apart-nets board p q l m d e =
@@ -218,11 +219,11 @@ precedes-no-self n p = p .another refl
 
 -- nets 1, 2 and 3 are eligible on track 1; nets 4 and 5 on track 2, after those three
 pub eligible-track1 : map (isEligible workedJob []) (workedJob .nets) ≡ true ∷ true ∷ true ∷ false ∷ false ∷ []
-unfolding isEligible
+unfolding isEligible isOn isReady isBefore anyOf allOf
 eligible-track1 = refl
 
 pub eligible-track2 : map (isEligible workedJob (1 ∷ 2 ∷ 3 ∷ [])) (workedJob .nets) ≡ false ∷ false ∷ false ∷ true ∷ true ∷ []
-unfolding isEligible
+unfolding isEligible isOn isReady isBefore anyOf allOf
 eligible-track2 = refl
 
 -- a net and one that precedes it never stand on one track

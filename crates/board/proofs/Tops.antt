@@ -29,7 +29,7 @@ tops-legal : (board : Board) (p : Placement) → InTops board p → Legal board 
 unfolding firstTop lastTop covered
 tops-legal board p i =
     let e = span-add (p .net) in
-    record { allowed = i .allowed; from-one = omega arith; over-upper = omega arith; over-lower = omega arith; to-last = omega arith }
+    record { allowed = i .allowed; from-one = omega arith; over-upper = omega arith; under-lower = omega arith; to-last = omega arith }
 
 -- the placements of document 01 are those
 pub legal-in-tops : (board : Board) (p : Placement) → Legal board p ↔ InTops board p
@@ -120,7 +120,7 @@ shrink board p l =
     record {
       same-net = refl;
       at-shortest = refl;
-      legal = record { allowed = s .allowed; from-one = omega arith; over-upper = omega arith; over-lower = omega arith; to-last = omega arith };
+      legal = record { allowed = s .allowed; from-one = omega arith; over-upper = omega arith; under-lower = omega arith; to-last = omega arith };
       from-top = down;
       to-bottom = up;
       clear = λ job t c row a b. c row (omega arith) (omega arith);

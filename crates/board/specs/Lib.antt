@@ -5,5 +5,6 @@ pub mod Placement
 pub mod Precedence
 pub mod Rival
 pub mod Unbeaten
+pub mod Tests
 pub mod Accepted
 pub mod Stored

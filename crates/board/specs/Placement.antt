@@ -32,7 +32,7 @@ pub record Legal (board : Board) (p : Placement) : Type 0 where
   pub allowed : Allowed board (p .net) (p .shape)
   pub from-one : 1 ≤ p .top
   pub over-upper : p .top ≤ upper (p .net)
-  pub over-lower : lower (p .net) ≤ bottom p
+  pub under-lower : lower (p .net) ≤ bottom p
   pub to-last : bottom p ≤ board .rows
 
 -- max(1, a − e) and min(a, H − m + 1): the first and the last top row of a net in a shape

@@ -121,7 +121,7 @@ drawn-length-of job t p a b l = go (p .shape) refl
         ap (λ x. pathFrom (at 0 (p .net .left .0)) (corners (job .board) t (record { net = p .net; shape = x; top = p .top }) x)) e ∙
         path-plain job t (p .net) (p .top) a b ∙ ap (lengthOf (job .board) (p .net)) (sym e)
     go (Stretched k) e =
-        let y : lower (p .net) ≤ p .top + span (p .net) + k = rw e at (l .over-lower) in
+        let y : lower (p .net) ≤ p .top + span (p .net) + k = rw e at (l .under-lower) in
         distinct-length (at 0 (p .net .left .0)) (corners (job .board) t p (p .shape)) ∙
         ap (λ x. pathFrom (at 0 (p .net .left .0)) (corners (job .board) t p x)) e ∙
         path-stretched job t k p a b e (l .over-upper) y ∙ ap (lengthOf (job .board) (p .net)) (sym e)

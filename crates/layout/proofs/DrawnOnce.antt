@@ -66,7 +66,7 @@ lastIn-distinct c d p (q ∷ qs) =
 -- the rows of p hold the fixed rows of its net
 pub record Fixed (p : Placement) : Type 0 where
   pub over-upper : p .top ≤ upper (p .net)
-  pub over-lower : lower (p .net) ≤ bottom p
+  pub under-lower : lower (p .net) ≤ bottom p
 
 abbrev placed : Net → Shape → ℕ → Placement
 placed n s r = record { net = n; shape = s; top = r }
@@ -132,4 +132,4 @@ module _ (job : Job) (t : ℕ) (on-track : 1 ≤ t) where
       sym (placement-back p f) ∙ ap₂ (placementOf t) n same ∙ placement-back q g
 
 pub legal-fixed : (job : Job) (p : Placement) → Legal (job .board) p → Fixed p
-legal-fixed job p l = record { over-upper = l .over-upper; over-lower = l .over-lower }
+legal-fixed job p l = record { over-upper = l .over-upper; under-lower = l .under-lower }

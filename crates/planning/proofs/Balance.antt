@@ -19,9 +19,9 @@ use Rattle.board.specs.Unbeaten.{FilledTrack, numbers, numbersOn}
 use Rattle.board.specs.Accepted.{Accepted}
 use Rattle.board.proofs.ShortestShape.{span-add}
 use Rattle.board.proofs.SameNumber.{same-number}
-use Rattle.packing.specs.Fits.{isOn}
+use Rattle.board.specs.Tests.{isOn}
 use Rattle.packing.specs.Walk.{wiresOf}
-use Rattle.packing.proofs.Fitting.{not-on}
+use Rattle.board.proofs.ExactTests.{not-on}
 use Rattle.planning.specs.Plan.{filledTrack, planFrom, planOf}
 use Rattle.planning.specs.Loose.{without, looseOf, sumOfTracks}
 use Rattle.planning.proofs.PlanUnbeaten.{all-allowed, track-optimal}

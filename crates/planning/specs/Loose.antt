@@ -5,7 +5,7 @@ use mathlib.Core.List.{List, [], _∷_}
 use Rattle.board.specs.declared.Net.{Net}
 use Rattle.board.specs.Job.{Job}
 use Rattle.board.specs.Unbeaten.{FilledTrack, numbersOn}
-use Rattle.packing.specs.Fits.{isOn}
+use Rattle.board.specs.Tests.{isOn}
 
 -- the nets whose numbers are not in `on`
 unfoldable pub without : List ℕ → List Net → List Net

@@ -17,7 +17,7 @@ use Rattle.board.specs.Rival.{Rival}
 use Rattle.board.specs.Unbeaten.{FilledTrack, numbers, numbersOn}
 use Rattle.board.specs.Accepted.{Accepted}
 use Rattle.board.proofs.SameNumber.{same-number}
-use Rattle.packing.specs.Fits.{isOn}
+use Rattle.board.specs.Tests.{isOn}
 use Rattle.packing.specs.Walk.{wiresOf}
 use Rattle.planning.specs.Plan.{filledTrack, planFrom, planOf}
 use Rattle.planning.specs.Loose.{without, looseOf}

@@ -1,0 +1,3 @@
+-- The code's pass over the candidates, and that its plan is the plan of the track.
+pub mod Picking
+pub mod Filling

@@ -1,2 +1,3 @@
--- The plan of a track by value.
+-- The plan of a track by value, and what the code computes of the candidates' arrays.
 pub mod TrackPlans
+pub mod Filled

@@ -1,0 +1,73 @@
+-- The loop of `fill`: each turn fills one row, and no sum is too large for the code. Assumes nothing.
+use Prim.Native.Nat.{ℕ, zero, suc, _+_, _*_, _-_, _≤_, _<_}
+use mathlib.Core.Path.{_≡_, refl, _∙_}
+use mathlib.Core.List.{List}
+use native.Mathlib.Omega.{arith}
+use lib.Dec.{eqb}
+use lib.ListN.{length, getD, set, replicate, length-set, length-replicate, getD-replicate}
+use lib.Seq.{getD-set-same, getD-set-other}
+use borrow.Author.Tests.{eqb-true, eqb-false}
+use Rattle.lists.proofs.Cases.{by-test}
+use Rattle.candidates.specs.declared.Candidates.{Candidates}
+use Rattle.choice.specs.declared.Pick.{Pick}
+use Rattle.choice.specs.declared.TrackPlan.{TrackPlan}
+use Rattle.choice.specs.TrackPlans.{noChoice}
+use Rattle.choice.specs.Filled.{pickTo, fillFrom, filled, InBounds, LowBelow}
+use Rattle.choice.proofs.Picking.{pick-low}
+
+-- what holds before a turn, where rows 1 to j are still to be filled
+pub record Going (c : Candidates) (flags : List ℕ) (rows : ℕ) (best choice : List ℕ) (j : ℕ) : Type 0 where
+  pub in-range : j ≤ rows
+  pub best-length : length best ≡ 1026
+  pub choice-length : length choice ≡ 1024
+  pub low : (r : ℕ) → j < r → r ≤ rows + 1 → getD best r 0 ≤ 4096 * (rows + 1 - r)
+  pub same : fillFrom c flags j best choice ≡ filled c flags rows
+
+module _ (c : Candidates) (flags : List ℕ) (rows : ℕ) (b : InBounds c flags rows) where
+  abbrev Now : List ℕ → List ℕ → ℕ → Type 0
+  Now best choice j = Going c flags rows best choice j
+
+  pub going-start : Now (replicate 1026 0) (replicate 1024 noChoice) rows
+  unfolding filled
+  going-start =
+      record {
+        in-range = omega arith;
+        best-length = length-replicate {A = ℕ} 1026 0;
+        choice-length = length-replicate 1024 noChoice;
+        low = λ r a h. let e : getD {A = ℕ} (replicate 1026 0) r 0 ≡ 0 = getD-replicate {A = ℕ} 1026 r 0 0 (omega arith) in omega arith;
+        same = refl;
+      }
+
+  pub going-low : (best choice : List ℕ) (j : ℕ) → 0 < j → Now best choice j → LowBelow best rows j
+  going-low best choice j h g = record { row-range = omega arith; low = g .low }
+
+  row-again : (best choice : List ℕ) (i : ℕ) (p : Pick) → Now best choice (suc i) → p ≡ pickTo c flags best (suc i) (c .count) →
+      Now (set best (suc i) (p .sum)) (set choice i (p .at)) i
+  unfolding fillFrom
+  row-again best choice i p g q =
+      let l = pick-low c flags best rows (suc i) b (going-low best choice (suc i) (omega arith) g) (c .count) (omega arith) in
+      record {
+        in-range = omega arith;
+        best-length = length-set best (suc i) (p .sum) ∙ g .best-length;
+        choice-length = length-set choice i (p .at) ∙ g .choice-length;
+        low = λ r a h.
+            by-test (eqb r (suc i))
+            (λ z.
+            let z′ : r ≡ suc i = eqb-true _ _ z in
+            rw (z′, getD-set-same best (suc i) (p .sum) 0 (omega (arith, g .best-length)), q) l)
+            (λ z. rw (getD-set-other best (suc i) r (p .sum) 0 (eqb-false r (suc i) z)) (g .low r (omega (arith, eqb-false r (suc i) z)) h));
+        same = rw q (g .same);
+      }
+
+  pub going-again : (best choice : List ℕ) (j : ℕ) (p : Pick) → 0 < j → Now best choice j → p ≡ pickTo c flags best j (c .count) →
+      Now (set best j (p .sum)) (set choice (j - 1) (p .at)) (j - 1)
+  going-again best choice zero p h g e = absurd (omega arith)
+  going-again best choice (suc i) p h g e =
+      let e′ : suc i - 1 ≡ i = omega arith in
+      rw e′ (row-again best choice i p g e)
+
+  pub going-end : (best choice : List ℕ) (j : ℕ) → j ≤ 0 → Now best choice j →
+      _≡_ {A = TrackPlan} (record { choice = choice; sum = getD best 1 0 }) (filled c flags rows)
+  unfolding fillFrom
+  going-end best choice zero h g = g .same
+  going-end best choice (suc j) h g = absurd (omega arith)

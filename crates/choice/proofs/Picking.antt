@@ -1,0 +1,85 @@
+-- The pass over the candidates of a row, by steps: what a candidate that can stand there does to the pick, and what one that cannot.
+-- Assumes nothing.
+use Prim.Native.Nat.{ℕ, zero, suc, _+_, _*_, _-_, _≤_, _<_}
+use mathlib.Core.Path.{_≡_, refl, sym, ap, _∙_}
+use mathlib.Core.Bool.{Bool, true, false, _&&_, and-false}
+use mathlib.Core.List.{List}
+use native.Mathlib.Omega.{arith}
+use native.Mathlib.Numerals.{add-one}
+use lib.Dec.{leb, ltb, eqb}
+use lib.ListN.{getD}
+use borrow.Author.Tests.{lt-ltb, le-ltb, le-leb, lt-leb, leb-true, ltb-true, ltb-false}
+use Rattle.lists.proofs.Cases.{by-test, and-split}
+use Rattle.candidates.specs.declared.Candidates.{Candidates}
+use Rattle.choice.specs.declared.Pick.{Pick}
+use Rattle.choice.specs.Filled.{stands, sumAt, better, pickTo, InBounds, LowBelow}
+
+-- the step on a pick
+pub better-more : (p : Pick) (sum net : ℕ) → p .sum < sum → better p sum net ≡ record { sum = sum; at = net }
+unfolding better
+better-more p sum net l = rw (lt-ltb (p .sum) sum l)
+
+pub better-not : (p : Pick) (sum net : ℕ) → sum ≤ p .sum → better p sum net ≡ p
+unfolding better
+better-not p sum net l = rw (le-ltb (p .sum) sum l)
+
+module _ (first last flags : List ℕ) (j i : ℕ) where
+  abbrev Stands : Bool
+  Stands = stands first last flags j i
+
+  -- at a top of the candidate its flag decides, elsewhere it cannot stand
+  pub stands-top : getD first i 0 ≤ j → j ≤ getD last i 0 → Stands ≡ eqb (getD flags (i * 1024 + (j - 1)) 0) 1
+  unfolding stands
+  stands-top a b = rw (le-leb (getD first i 0) j a, le-leb j (getD last i 0) b)
+
+  pub stands-not-above : j < getD first i 0 → Stands ≡ false
+  unfolding stands
+  stands-not-above a = rw (lt-leb (getD first i 0) j a)
+
+  pub stands-not-below : getD last i 0 < j → Stands ≡ false
+  unfolding stands
+  stands-not-below b = rw (lt-leb j (getD last i 0) b, and-false (leb (getD first i 0) j))
+
+  pub stands-within : Stands ≡ true → (getD first i 0 ≤ j) × (j ≤ getD last i 0)
+  unfolding stands
+  stands-within h =
+      let s = and-split _ _ (and-split _ _ h .0) in
+      (leb-true _ _ (s .0), leb-true _ _ (s .1))
+
+-- what the pick becomes with one candidate more; `can` tells whether it can stand at row j
+module _ (c : Candidates) (flags best : List ℕ) (j i : ℕ) {can : Bool} (tells : can ≡ stands (c .first) (c .last) flags j i) where
+  pub pick-taken : {p q r : Pick} → p ≡ pickTo c flags best j i → can ≡ true → r ≡ q → q ≡ better p (sumAt c best j i) (getD (c .net) i 0) →
+      r ≡ pickTo c flags best j (i + 1)
+  unfolding pickTo
+  pick-taken h t f e = rw (add-one i, ← tells, t, ← h) (f ∙ e)
+
+  pub pick-passed : {p r : Pick} → p ≡ pickTo c flags best j i → can ≡ false → r ≡ p → r ≡ pickTo c flags best j (i + 1)
+  unfolding pickTo
+  pick-passed h t f = rw (add-one i, ← tells, t) (f ∙ h)
+
+-- a candidate that can stand at row j ends within the board, and its sum is within the bound of row j
+module _ (c : Candidates) (flags best : List ℕ) (rows j : ℕ) (b : InBounds c flags rows) (l : LowBelow best rows j) where
+  pub record Room (i : ℕ) : Type 0 where
+    pub ends : j + getD (c .need) i 0 ≤ rows + 1
+    pub sum-low : getD (c .worth) i 0 + getD best (j + getD (c .need) i 0) 0 ≤ 4096 * (rows + 1 - j)
+
+  pub stands-room : (i : ℕ) {can : Bool} → i < c .count → can ≡ stands (c .first) (c .last) flags j i → can ≡ true → Room i
+  stands-room i h e t =
+      let w = stands-within (c .first) (c .last) flags j i (sym e ∙ t) in
+      let k = b .slots i h in
+      let m = l .low (j + getD (c .need) i 0) (omega arith) (omega arith) in
+      record { ends = omega arith; sum-low = omega arith }
+
+  -- so the pick is
+  pub pick-low : (i : ℕ) → i ≤ c .count → pickTo c flags best j i .sum ≤ 4096 * (rows + 1 - j)
+  unfolding pickTo sumAt
+  pick-low zero h = omega (arith, l .low (j + 1) (omega arith) (omega arith))
+  pick-low (suc i) h =
+      by-test (stands (c .first) (c .last) flags j i)
+      (λ s.
+      let p = pickTo c flags best j i in
+      let r = stands-room i (omega arith) refl s in
+      by-test (ltb (p .sum) (sumAt c best j i))
+      (λ t. rw (s, better-more p (sumAt c best j i) (getD (c .net) i 0) (ltb-true _ _ t)) (r .sum-low))
+      (λ t. rw (s, better-not p (sumAt c best j i) (getD (c .net) i 0) (ltb-false _ _ t)) (pick-low i (omega arith))))
+      (λ s. rw s (pick-low i (omega arith)))

@@ -1,0 +1,133 @@
+-- `choice::row_pick` meets its contract: before each turn the pick is that of the candidates looked at. Assumes nothing.
+use Rattle.choice.specs.Filled.{lent, sumAt, pickTo}
+use Prim.Native.Nat.{ℕ, zero, suc, _≤_, _<_, _+_, _-_, _*_}
+use mathlib.Core.Path.{_≡_, refl}
+use mathlib.Core.Logic.{⊎-elim}
+use native.Mathlib.Omega.{arith}
+use borrow.Author.Needs.{needs}
+use lib.ListN.{length, getD, set}
+use Rattle.choice.proofs.Picking.{stands-room, pick-taken, pick-passed}
+use Rattle.choice.proofs.row_pick.Statement.{statement}
+use Rattle.choice.proofs.row_pick.Tie as tie
+
+abbrev Inv-loop : tie.InvT-loop
+Inv-loop count net need worth first last flags best rows row j p₀ i₀ p i = (i ≤ count) × (p ≡ pickTo (lent count net need worth first last) flags best j i)
+
+abbrev μ-loop : tie.MeasureT-loop
+μ-loop count net need worth first last flags best rows row j p₀ i₀ p i = count - i
+
+add-t14 : tie.Need-add-t14 Inv-loop μ-loop
+add-t14 c = search needs
+
+mul-t15 : tie.Need-mul-t15 Inv-loop μ-loop
+mul-t15 c = search needs
+
+element-copy-out-t18 : tie.Need-element-copy-out-t18 Inv-loop μ-loop
+element-copy-out-t18 c = search needs
+
+loop-holds : tie.Need-loop-holds Inv-loop μ-loop
+unfolding pickTo
+loop-holds c = (omega arith, refl)
+
+can-stand-requires : tie.Need-can-stand-requires Inv-loop μ-loop
+can-stand-requires c κs = search needs
+
+mul-take-better : tie.Need-mul-take-better Inv-loop μ-loop
+mul-take-better c = search needs
+
+element-copy-out-take-better : tie.Need-element-copy-out-take-better Inv-loop μ-loop
+element-copy-out-take-better c = search needs
+
+mul-take-better-2 : tie.Need-mul-take-better-2 Inv-loop μ-loop
+mul-take-better-2 c = search needs
+
+element-copy-out-take-better-2 : tie.Need-element-copy-out-take-better-2 Inv-loop μ-loop
+element-copy-out-take-better-2 c = search needs
+
+add-take-better : tie.Need-add-take-better Inv-loop μ-loop
+add-take-better c =
+    let start = c .before .before .before .before .before .before .before .before in
+    let i = c .before .before .before .before .before .loop .i in
+    let r = stands-room _ _ _ _ _ (start .pre .0) (start .pre .1) i (omega arith) (c .before .before .before .can-stand .ensures) (c .before .before .if1 .taken) in
+    omega arith
+
+mul-take-better-3 : tie.Need-mul-take-better-3 Inv-loop μ-loop
+mul-take-better-3 c =
+    let start = c .before .before .before .before .before .before .before .before in
+    let i = c .before .before .before .before .before .loop .i in
+    let r = stands-room _ _ _ _ _ (start .pre .0) (start .pre .1) i (omega arith) (c .before .before .before .can-stand .ensures) (c .before .before .if1 .taken) in
+    omega arith
+
+element-copy-out-take-better-3 : tie.Need-element-copy-out-take-better-3 Inv-loop μ-loop
+element-copy-out-take-better-3 c =
+    let start = c .before .before .before .before .before .before .before .before in
+    let i = c .before .before .before .before .before .loop .i in
+    let r = stands-room _ _ _ _ _ (start .pre .0) (start .pre .1) i (omega arith) (c .before .before .before .can-stand .ensures) (c .before .before .if1 .taken) in
+    omega arith
+
+add-take-better-2 : tie.Need-add-take-better-2 Inv-loop μ-loop
+add-take-better-2 c =
+    let start = c .before .before .before .before .before .before .before .before .before in
+    let i = c .before .before .before .before .before .before .loop .i in
+    let r = stands-room _ _ _ _ _ (start .pre .0) (start .pre .1) i (omega arith) (c .before .before .before .before .can-stand .ensures) (c .before .before .before .if1 .taken) in
+    omega arith
+
+mul-take-better-4 : tie.Need-mul-take-better-4 Inv-loop μ-loop
+mul-take-better-4 c = search needs
+
+element-copy-out-take-better-4 : tie.Need-element-copy-out-take-better-4 Inv-loop μ-loop
+element-copy-out-take-better-4 c = search needs
+
+take-better-requires : tie.Need-take-better-requires Inv-loop μ-loop
+take-better-requires c κs = search needs
+
+add-i : tie.Need-add-i Inv-loop μ-loop
+add-i c = search needs
+
+loop-less : tie.Need-loop-less Inv-loop μ-loop
+loop-less c = search needs
+
+loop-again : tie.Need-loop-again Inv-loop μ-loop
+unfolding sumAt
+loop-again c =
+    let inv = c .before .before .before .loop .inv in
+    let i = c .before .before .before .loop .i in
+    let can = c .before .can-stand .ensures in (
+      omega arith,
+      ⊎-elim
+          (λ w. pick-taken _ _ _ _ i can (inv .1) (w .0 .taken) (w .6) (w .5 .ensures))
+          (λ w. pick-passed _ _ _ _ i can (inv .1) (w .0 .left) (w .1))
+          (c .if1 .came),
+    )
+
+returns : tie.Need-returns Inv-loop μ-loop
+returns c =
+    let e : c .before .loop .i ≡ c .before .before .before .before .args .count = omega arith in
+    rw e at (c .before .loop .inv .1)
+
+pub row-pick-spec : {M : Type 1} → statement M
+row-pick-spec =
+    tie.close
+    (tie.spec
+    Inv-loop
+    μ-loop
+    add-t14
+    mul-t15
+    element-copy-out-t18
+    loop-holds
+    can-stand-requires
+    mul-take-better
+    element-copy-out-take-better
+    mul-take-better-2
+    element-copy-out-take-better-2
+    add-take-better
+    mul-take-better-3
+    element-copy-out-take-better-3
+    add-take-better-2
+    mul-take-better-4
+    element-copy-out-take-better-4
+    take-better-requires
+    add-i
+    loop-less
+    loop-again
+    returns)

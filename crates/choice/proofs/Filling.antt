@@ -12,7 +12,7 @@ use Rattle.candidates.specs.declared.Candidates.{Candidates}
 use Rattle.choice.specs.declared.Pick.{Pick}
 use Rattle.choice.specs.declared.TrackPlan.{TrackPlan}
 use Rattle.choice.specs.TrackPlans.{noChoice}
-use Rattle.choice.specs.Filled.{pickTo, fillFrom, filled, InBounds, LowBelow}
+use Rattle.choice.specs.Filled.{sumAt, pickTo, fillFrom, filled, InBounds, RowInBounds}
 use Rattle.choice.proofs.Picking.{pick-low}
 
 -- what holds before a turn, where rows 1 to j are still to be filled
@@ -38,14 +38,29 @@ module _ (c : Candidates) (flags : List ℕ) (rows : ℕ) (b : InBounds c flags 
         same = refl;
       }
 
-  pub going-low : (best choice : List ℕ) (j : ℕ) → 0 < j → Now best choice j → LowBelow best rows j
-  going-low best choice j h g = record { row-range = omega arith; low = g .low }
+  -- the bound of a sum at row j
+  sum-low : (best choice : List ℕ) (j : ℕ) → Now best choice j → (i : ℕ) → i < c .count → j ≤ getD (c .last) i 0 →
+      getD (c .worth) i 0 + getD best (j + getD (c .need) i 0) 0 ≤ 4096 * (rows + 1 - j)
+  sum-low best choice j g i h l =
+      let k = b .slots i h in
+      omega (arith, g .low (j + getD (c .need) i 0) (omega arith) (omega arith))
+
+  pub going-row : (best choice : List ℕ) (j : ℕ) → 0 < j → Now best choice j → RowInBounds c flags best j
+  going-row best choice j h g =
+      record {
+        row-range = omega arith;
+        count-range = b .count-range;
+        flags-range = b .flags-range;
+        room = λ i k l. omega (arith, b .slots i k .room);
+        low = λ i k l. omega (arith, sum-low best choice j g i k l);
+      }
 
   row-again : (best choice : List ℕ) (i : ℕ) (p : Pick) → Now best choice (suc i) → p ≡ pickTo c flags best (suc i) (c .count) →
       Now (set best (suc i) (p .sum)) (set choice i (p .at)) i
-  unfolding fillFrom
+  unfolding fillFrom sumAt
   row-again best choice i p g q =
-      let l = pick-low c flags best rows (suc i) b (going-low best choice (suc i) (omega arith) g) (c .count) (omega arith) in
+      let n = g .low (suc i + 1) (omega arith) (omega arith) in
+      let l = pick-low c flags best (suc i) (4096 * (rows + 1 - suc i)) (omega arith) (sum-low best choice (suc i) g) (c .count) (omega arith) in
       record {
         in-range = omega arith;
         best-length = length-set best (suc i) (p .sum) ∙ g .best-length;

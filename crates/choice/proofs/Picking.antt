@@ -12,7 +12,7 @@ use borrow.Author.Tests.{lt-ltb, le-ltb, le-leb, lt-leb, leb-true, ltb-true, ltb
 use Rattle.lists.proofs.Cases.{by-test, and-split}
 use Rattle.candidates.specs.declared.Candidates.{Candidates}
 use Rattle.choice.specs.declared.Pick.{Pick}
-use Rattle.choice.specs.Filled.{stands, sumAt, better, pickTo, InBounds, LowBelow}
+use Rattle.choice.specs.Filled.{stands, sumAt, better, pickTo, RowInBounds}
 
 -- the step on a pick
 pub better-more : (p : Pick) (sum net : ℕ) → p .sum < sum → better p sum net ≡ record { sum = sum; at = net }
@@ -57,29 +57,30 @@ module _ (c : Candidates) (flags best : List ℕ) (j i : ℕ) {can : Bool} (tell
   unfolding pickTo
   pick-passed h t f = rw (add-one i, ← tells, t) (f ∙ h)
 
--- a candidate that can stand at row j ends within the board, and its sum is within the bound of row j
-module _ (c : Candidates) (flags best : List ℕ) (rows j : ℕ) (b : InBounds c flags rows) (l : LowBelow best rows j) where
+-- a candidate that can stand at row j has the row below it in the table, and its sum is not too large
+module _ (c : Candidates) (flags best : List ℕ) (j : ℕ) (b : RowInBounds c flags best j) where
   pub record Room (i : ℕ) : Type 0 where
-    pub ends : j + getD (c .need) i 0 ≤ rows + 1
-    pub sum-low : getD (c .worth) i 0 + getD best (j + getD (c .need) i 0) 0 ≤ 4096 * (rows + 1 - j)
+    pub ends : j + getD (c .need) i 0 ≤ 1025
+    pub sum-low : getD (c .worth) i 0 + getD best (j + getD (c .need) i 0) 0 ≤ 4194304
 
   pub stands-room : (i : ℕ) {can : Bool} → i < c .count → can ≡ stands (c .first) (c .last) flags j i → can ≡ true → Room i
   stands-room i h e t =
       let w = stands-within (c .first) (c .last) flags j i (sym e ∙ t) in
-      let k = b .slots i h in
-      let m = l .low (j + getD (c .need) i 0) (omega arith) (omega arith) in
-      record { ends = omega arith; sum-low = omega arith }
+      record { ends = b .room i h (w .1); sum-low = b .low i h (w .1) }
 
-  -- so the pick is
-  pub pick-low : (i : ℕ) → i ≤ c .count → pickTo c flags best j i .sum ≤ 4096 * (rows + 1 - j)
-  unfolding pickTo sumAt
-  pick-low zero h = omega (arith, l .low (j + 1) (omega arith) (omega arith))
-  pick-low (suc i) h =
-      by-test (stands (c .first) (c .last) flags j i)
-      (λ s.
-      let p = pickTo c flags best j i in
-      let r = stands-room i (omega arith) refl s in
-      by-test (ltb (p .sum) (sumAt c best j i))
-      (λ t. rw (s, better-more p (sumAt c best j i) (getD (c .net) i 0) (ltb-true _ _ t)) (r .sum-low))
-      (λ t. rw (s, better-not p (sumAt c best j i) (getD (c .net) i 0) (ltb-false _ _ t)) (pick-low i (omega arith))))
-      (λ s. rw s (pick-low i (omega arith)))
+-- where no sum of a candidate that can stand at row j is above m, and that of the next row is not, the pick is not
+pub pick-low : (c : Candidates) (flags best : List ℕ) (j m : ℕ) → getD best (j + 1) 0 ≤ m →
+    ((i : ℕ) → i < c .count → j ≤ getD (c .last) i 0 → sumAt c best j i ≤ m) →
+    (i : ℕ) → i ≤ c .count → pickTo c flags best j i .sum ≤ m
+unfolding pickTo
+pick-low c flags best j m g f zero h = g
+pick-low c flags best j m g f (suc i) h =
+    by-test (stands (c .first) (c .last) flags j i)
+    (λ s.
+    let p = pickTo c flags best j i in
+    by-test (ltb (p .sum) (sumAt c best j i))
+    (λ t.
+    rw (s, better-more p (sumAt c best j i) (getD (c .net) i 0) (ltb-true _ _ t))
+    (f i (omega arith) (stands-within (c .first) (c .last) flags j i s .1)))
+    (λ t. rw (s, better-not p (sumAt c best j i) (getD (c .net) i 0) (ltb-false _ _ t)) (pick-low c flags best j m g f i (omega arith))))
+    (λ s. rw s (pick-low c flags best j m g f i (omega arith)))

@@ -56,7 +56,10 @@ pub record InBounds (c : Candidates) (flags : List ℕ) (rows : ℕ) : Type 0 wh
   pub flags-range : c .count * 1024 ≤ length flags
   pub slots : (i : ℕ) → i < c .count → SlotInBounds c rows i
 
--- what `row_pick` asks of the table at row j: no sum of the rows below is too large
-pub record LowBelow (best : List ℕ) (rows j : ℕ) : Type 0 where
-  pub row-range : (1 ≤ j) × (j ≤ rows)
-  pub low : (r : ℕ) → j < r → r ≤ rows + 1 → getD best r 0 ≤ 4096 * (rows + 1 - r)
+-- what `row_pick` asks at row j: the row below each candidate that has a top there is in the table, and no sum is too large
+pub record RowInBounds (c : Candidates) (flags best : List ℕ) (j : ℕ) : Type 0 where
+  pub row-range : (1 ≤ j) × (j ≤ 1024)
+  pub count-range : c .count ≤ 512
+  pub flags-range : c .count * 1024 ≤ length flags
+  pub room : (i : ℕ) → i < c .count → j ≤ getD (c .last) i 0 → j + getD (c .need) i 0 ≤ 1025
+  pub low : (i : ℕ) → i < c .count → j ≤ getD (c .last) i 0 → getD (c .worth) i 0 + getD best (j + getD (c .need) i 0) 0 ≤ 4194304

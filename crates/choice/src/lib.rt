@@ -2,7 +2,7 @@
 ghost use mathlib.Core.Path.{_≡_};
 ghost use Prim.Native.Nat.{_+_, _*_, _≤_, _<_};
 ghost use lib.ListN.{length};
-ghost use Rattle.choice.specs.Filled.{lent, stands, better, pickTo, filled, InBounds, LowBelow};
+ghost use Rattle.choice.specs.Filled.{lent, stands, better, pickTo, filled, InBounds, RowInBounds};
 use board::Row;
 use candidates::Candidates;
 
@@ -59,21 +59,18 @@ pub fn row_pick<'a>(
     last: &'a [usize; 512],
     flags: &[u8],
     best: &[usize; 1026],
-    rows: usize,
     row: Row,
 ) -> Pick
-    requires { ⌜ InBounds (lent count (now net) (now need) (now worth) (now first) (now last)) (now flags) rows ⌝ }
-    requires { ⌜ LowBelow (now best) rows (row .0) ⌝ }
+    requires { ⌜ RowInBounds (lent count (now net) (now need) (now worth) (now first) (now last)) (now flags) (now best) (row .0) ⌝ }
     ensures { λ r. ⌜ r ≡ pickTo (lent count (now (net .entry)) (now (need .entry)) (now (worth .entry)) (now (first .entry)) (now (last .entry))) (now (flags .entry)) (now (best .entry)) (row .0) count ⌝ }
 {
     let j = row.0;
-    let mut p = Pick {
-        sum: best[j + 1],
-        at: 512,
-    };
+    let next = best[j + 1];
+    let mut p = Pick { sum: next, at: 512 };
     for i in 0..count {
         if can_stand(first, last, flags, i, row) {
-            p = take_better(p, worth[i] + best[j + need[i]], net[i]);
+            let sum = worth[i] + best[j + need[i]];
+            p = take_better(p, sum, net[i]);
         }
     }
     p
@@ -97,15 +94,12 @@ pub fn fill(c: Candidates, flags: &[u8], rows: usize) -> TrackPlan
             &c.last,
             flags,
             &best,
-            rows,
             Row(j),
         );
         best[j] = p.sum;
         choice[j - 1] = p.at;
         j -= 1;
     }
-    TrackPlan {
-        choice,
-        sum: best[1],
-    }
+    let sum = best[1];
+    TrackPlan { choice, sum }
 }

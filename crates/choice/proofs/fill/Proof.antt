@@ -1,7 +1,7 @@
 -- `choice::fill` meets its contract: each turn fills one row as the definition does. Assumes nothing.
 use native.Mathlib.Omega.{arith}
 use borrow.Author.Needs.{needs}
-use Rattle.choice.proofs.Filling.{Going, going-start, going-low, going-again, going-end}
+use Rattle.choice.proofs.Filling.{Going, going-start, going-row, going-again, going-end}
 use Rattle.choice.proofs.fill.Statement.{statement}
 use Rattle.choice.proofs.fill.Tie as tie
 
@@ -18,7 +18,7 @@ row-pick-requires : tie.Need-row-pick-requires Inv-loop μ-loop
 row-pick-requires c κs =
     let start = c .before .before .before .before .before .before .before .before .before .before in
     let now = c .before .before .before .before .before .before .before .before .loop in
-    (start .pre, going-low _ _ _ (start .pre) (now .best) (now .choice) (now .j) (omega arith) (now .inv))
+    going-row _ _ _ (start .pre) (now .best) (now .choice) (now .j) (omega arith) (now .inv)
 
 mul-best : tie.Need-mul-best Inv-loop μ-loop
 mul-best c = search needs
@@ -47,8 +47,8 @@ loop-again c =
     let now = c .before .before .before .before .before .before .before .before .before .loop in
     going-again _ _ _ (start .pre) (now .best) (now .choice) (now .j) (c .row-pick .result) (omega arith) (now .inv) (c .row-pick .ensures)
 
-array-read-t26 : tie.Need-array-read-t26 Inv-loop μ-loop
-array-read-t26 c = search needs
+array-read-sum : tie.Need-array-read-sum Inv-loop μ-loop
+array-read-sum c = search needs
 
 returns : tie.Need-returns Inv-loop μ-loop
 returns c =
@@ -71,5 +71,5 @@ fill-spec =
     sub-j
     loop-less
     loop-again
-    array-read-t26
+    array-read-sum
     returns)

@@ -1,29 +1,28 @@
 -- `choice::row_pick` meets its contract: before each turn the pick is that of the candidates looked at. Assumes nothing.
-use Rattle.choice.specs.Filled.{lent, sumAt, pickTo}
-use Prim.Native.Nat.{ℕ, zero, suc, _≤_, _<_, _+_, _-_, _*_}
+use Prim.Native.Nat.{_≤_, _-_}
 use mathlib.Core.Path.{_≡_, refl}
 use mathlib.Core.Logic.{⊎-elim}
 use native.Mathlib.Omega.{arith}
 use borrow.Author.Needs.{needs}
-use lib.ListN.{length, getD, set}
+use Rattle.choice.specs.Filled.{lent, sumAt, pickTo}
 use Rattle.choice.proofs.Picking.{stands-room, pick-taken, pick-passed}
 use Rattle.choice.proofs.row_pick.Statement.{statement}
 use Rattle.choice.proofs.row_pick.Tie as tie
 
 abbrev Inv-loop : tie.InvT-loop
-Inv-loop count net need worth first last flags best rows row j p₀ i₀ p i = (i ≤ count) × (p ≡ pickTo (lent count net need worth first last) flags best j i)
+Inv-loop count net need worth first last flags best row j next p₀ i₀ p i = (i ≤ count) × (p ≡ pickTo (lent count net need worth first last) flags best (row .0) i)
 
 abbrev μ-loop : tie.MeasureT-loop
-μ-loop count net need worth first last flags best rows row j p₀ i₀ p i = count - i
+μ-loop count net need worth first last flags best row j next p₀ i₀ p i = count - i
 
-add-t14 : tie.Need-add-t14 Inv-loop μ-loop
-add-t14 c = search needs
+add-next : tie.Need-add-next Inv-loop μ-loop
+add-next c = search needs
 
-mul-t15 : tie.Need-mul-t15 Inv-loop μ-loop
-mul-t15 c = search needs
+mul-next : tie.Need-mul-next Inv-loop μ-loop
+mul-next c = search needs
 
-element-copy-out-t18 : tie.Need-element-copy-out-t18 Inv-loop μ-loop
-element-copy-out-t18 c = search needs
+element-copy-out-next : tie.Need-element-copy-out-next Inv-loop μ-loop
+element-copy-out-next c = search needs
 
 loop-holds : tie.Need-loop-holds Inv-loop μ-loop
 unfolding pickTo
@@ -32,51 +31,51 @@ loop-holds c = (omega arith, refl)
 can-stand-requires : tie.Need-can-stand-requires Inv-loop μ-loop
 can-stand-requires c κs = search needs
 
+mul-sum : tie.Need-mul-sum Inv-loop μ-loop
+mul-sum c = search needs
+
+element-copy-out-sum : tie.Need-element-copy-out-sum Inv-loop μ-loop
+element-copy-out-sum c = search needs
+
+mul-sum-2 : tie.Need-mul-sum-2 Inv-loop μ-loop
+mul-sum-2 c = search needs
+
+element-copy-out-sum-2 : tie.Need-element-copy-out-sum-2 Inv-loop μ-loop
+element-copy-out-sum-2 c = search needs
+
+add-sum : tie.Need-add-sum Inv-loop μ-loop
+add-sum c =
+    let start = c .before .before .before .before .before .before .before .before in
+    let i = c .before .before .before .before .before .loop .i in
+    let r = stands-room _ _ _ _ (start .pre) i (omega arith) (c .before .before .before .can-stand .ensures) (c .before .before .if1 .taken) in
+    omega arith
+
+mul-sum-3 : tie.Need-mul-sum-3 Inv-loop μ-loop
+mul-sum-3 c =
+    let start = c .before .before .before .before .before .before .before .before in
+    let i = c .before .before .before .before .before .loop .i in
+    let r = stands-room _ _ _ _ (start .pre) i (omega arith) (c .before .before .before .can-stand .ensures) (c .before .before .if1 .taken) in
+    omega arith
+
+element-copy-out-sum-3 : tie.Need-element-copy-out-sum-3 Inv-loop μ-loop
+element-copy-out-sum-3 c =
+    let start = c .before .before .before .before .before .before .before .before in
+    let i = c .before .before .before .before .before .loop .i in
+    let r = stands-room _ _ _ _ (start .pre) i (omega arith) (c .before .before .before .can-stand .ensures) (c .before .before .if1 .taken) in
+    omega arith
+
+add-sum-2 : tie.Need-add-sum-2 Inv-loop μ-loop
+add-sum-2 c =
+    let start = c .before .before .before .before .before .before .before .before .before in
+    let i = c .before .before .before .before .before .before .loop .i in
+    let r = stands-room _ _ _ _ (start .pre) i (omega arith) (c .before .before .before .before .can-stand .ensures) (c .before .before .before .if1 .taken) in
+    omega arith
+
 mul-take-better : tie.Need-mul-take-better Inv-loop μ-loop
 mul-take-better c = search needs
 
 element-copy-out-take-better : tie.Need-element-copy-out-take-better Inv-loop μ-loop
 element-copy-out-take-better c = search needs
-
-mul-take-better-2 : tie.Need-mul-take-better-2 Inv-loop μ-loop
-mul-take-better-2 c = search needs
-
-element-copy-out-take-better-2 : tie.Need-element-copy-out-take-better-2 Inv-loop μ-loop
-element-copy-out-take-better-2 c = search needs
-
-add-take-better : tie.Need-add-take-better Inv-loop μ-loop
-add-take-better c =
-    let start = c .before .before .before .before .before .before .before .before in
-    let i = c .before .before .before .before .before .loop .i in
-    let r = stands-room _ _ _ _ _ (start .pre .0) (start .pre .1) i (omega arith) (c .before .before .before .can-stand .ensures) (c .before .before .if1 .taken) in
-    omega arith
-
-mul-take-better-3 : tie.Need-mul-take-better-3 Inv-loop μ-loop
-mul-take-better-3 c =
-    let start = c .before .before .before .before .before .before .before .before in
-    let i = c .before .before .before .before .before .loop .i in
-    let r = stands-room _ _ _ _ _ (start .pre .0) (start .pre .1) i (omega arith) (c .before .before .before .can-stand .ensures) (c .before .before .if1 .taken) in
-    omega arith
-
-element-copy-out-take-better-3 : tie.Need-element-copy-out-take-better-3 Inv-loop μ-loop
-element-copy-out-take-better-3 c =
-    let start = c .before .before .before .before .before .before .before .before in
-    let i = c .before .before .before .before .before .loop .i in
-    let r = stands-room _ _ _ _ _ (start .pre .0) (start .pre .1) i (omega arith) (c .before .before .before .can-stand .ensures) (c .before .before .if1 .taken) in
-    omega arith
-
-add-take-better-2 : tie.Need-add-take-better-2 Inv-loop μ-loop
-add-take-better-2 c =
-    let start = c .before .before .before .before .before .before .before .before .before in
-    let i = c .before .before .before .before .before .before .loop .i in
-    let r = stands-room _ _ _ _ _ (start .pre .0) (start .pre .1) i (omega arith) (c .before .before .before .before .can-stand .ensures) (c .before .before .before .if1 .taken) in
-    omega arith
-
-mul-take-better-4 : tie.Need-mul-take-better-4 Inv-loop μ-loop
-mul-take-better-4 c = search needs
-
-element-copy-out-take-better-4 : tie.Need-element-copy-out-take-better-4 Inv-loop μ-loop
-element-copy-out-take-better-4 c = search needs
 
 take-better-requires : tie.Need-take-better-requires Inv-loop μ-loop
 take-better-requires c κs = search needs
@@ -111,21 +110,21 @@ row-pick-spec =
     (tie.spec
     Inv-loop
     μ-loop
-    add-t14
-    mul-t15
-    element-copy-out-t18
+    add-next
+    mul-next
+    element-copy-out-next
     loop-holds
     can-stand-requires
+    mul-sum
+    element-copy-out-sum
+    mul-sum-2
+    element-copy-out-sum-2
+    add-sum
+    mul-sum-3
+    element-copy-out-sum-3
+    add-sum-2
     mul-take-better
     element-copy-out-take-better
-    mul-take-better-2
-    element-copy-out-take-better-2
-    add-take-better
-    mul-take-better-3
-    element-copy-out-take-better-3
-    add-take-better-2
-    mul-take-better-4
-    element-copy-out-take-better-4
     take-better-requires
     add-i
     loop-less

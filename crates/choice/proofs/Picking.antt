@@ -1,8 +1,8 @@
 -- The pass over the candidates of a row, by steps: what a candidate that can stand there does to the pick, and what one that cannot.
 -- Assumes nothing.
 use Prim.Native.Nat.{ℕ, zero, suc, _+_, _*_, _-_, _≤_, _<_}
-use mathlib.Core.Path.{_≡_, refl, sym, ap, _∙_}
-use mathlib.Core.Bool.{Bool, true, false, _&&_, and-false}
+use mathlib.Core.Path.{_≡_, sym, _∙_}
+use mathlib.Core.Bool.{Bool, true, false, and-false}
 use mathlib.Core.List.{List}
 use native.Mathlib.Omega.{arith}
 use native.Mathlib.Numerals.{add-one}
@@ -46,16 +46,26 @@ module _ (first last flags : List ℕ) (j i : ℕ) where
       let s = and-split _ _ (and-split _ _ h .0) in
       (leb-true _ _ (s .0), leb-true _ _ (s .1))
 
--- what the pick becomes with one candidate more; `can` tells whether it can stand at row j
-module _ (c : Candidates) (flags best : List ℕ) (j i : ℕ) {can : Bool} (tells : can ≡ stands (c .first) (c .last) flags j i) where
-  pub pick-taken : {p q r : Pick} → p ≡ pickTo c flags best j i → can ≡ true → r ≡ q → q ≡ better p (sumAt c best j i) (getD (c .net) i 0) →
-      r ≡ pickTo c flags best j (i + 1)
-  unfolding pickTo
-  pick-taken h t f e = rw (add-one i, ← tells, t, ← h) (f ∙ e)
+-- what the pick becomes with one candidate more
+module _ (c : Candidates) (flags best : List ℕ) (j i : ℕ) where
+  abbrev Can : Bool
+  Can = stands (c .first) (c .last) flags j i
 
-  pub pick-passed : {p r : Pick} → p ≡ pickTo c flags best j i → can ≡ false → r ≡ p → r ≡ pickTo c flags best j (i + 1)
+  pub pick-suc-taken : Can ≡ true → pickTo c flags best j (suc i) ≡ better (pickTo c flags best j i) (sumAt c best j i) (getD (c .net) i 0)
   unfolding pickTo
-  pick-passed h t f = rw (add-one i, ← tells, t) (f ∙ h)
+  pick-suc-taken s = rw s
+
+  pub pick-suc-passed : Can ≡ false → pickTo c flags best j (suc i) ≡ pickTo c flags best j i
+  unfolding pickTo
+  pick-suc-passed s = rw s
+
+  -- as the loop has it: `can` is what `can_stand` answered, p the pick before and r the one after
+  pub pick-taken : {can : Bool} {p q r : Pick} → can ≡ Can → p ≡ pickTo c flags best j i → can ≡ true → r ≡ q →
+      q ≡ better p (sumAt c best j i) (getD (c .net) i 0) → r ≡ pickTo c flags best j (i + 1)
+  pick-taken a h t f e = rw (add-one i, pick-suc-taken (sym a ∙ t), ← h) (f ∙ e)
+
+  pub pick-passed : {can : Bool} {p r : Pick} → can ≡ Can → p ≡ pickTo c flags best j i → can ≡ false → r ≡ p → r ≡ pickTo c flags best j (i + 1)
+  pick-passed a h t f = rw (add-one i, pick-suc-passed (sym a ∙ t)) (f ∙ h)
 
 -- a candidate that can stand at row j has the row below it in the table, and its sum is not too large
 module _ (c : Candidates) (flags best : List ℕ) (j : ℕ) (b : RowInBounds c flags best j) where

@@ -1,6 +1,5 @@
 -- What `row_pick` and `fill` compute, over the arrays of the candidates. FilledPlan.antt in proofs/ shows that it is the plan of the track.
 use Prim.Native.Nat.{ℕ, zero, suc, _+_, _*_, _-_, _≤_, _<_}
-use mathlib.Core.Path.{_≡_}
 use mathlib.Core.Bool.{Bool, cond, _&&_}
 use mathlib.Core.List.{List}
 use lib.Dec.{leb, ltb, eqb}

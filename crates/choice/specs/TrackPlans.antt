@@ -1,5 +1,5 @@
 -- The plan of a track by value: best(1), and for each row the index of the net chosen there.
-use Prim.Native.Nat.{ℕ, zero, suc, _+_, _-_}
+use Prim.Native.Nat.{ℕ, zero, suc, _-_}
 use mathlib.Core.Bool.{cond}
 use mathlib.Core.Option.{Option, none, some}
 use mathlib.Core.List.{List, [], _∷_, _++_}

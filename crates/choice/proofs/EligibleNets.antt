@@ -1,0 +1,38 @@
+-- The candidates are the eligible nets of the job: any other net is passed over, and fits nowhere. Assumes nothing.
+use Prim.Native.Nat.{ℕ, suc, _≤_}
+use mathlib.Core.Path.{_≡_}
+use mathlib.Core.Bool.{true, false}
+use mathlib.Core.List.{List, [], _∷_}
+use native.Mathlib.Omega.{arith}
+use lib.ListN.{length}
+use Rattle.lists.proofs.Cases.{by-test}
+use Rattle.board.specs.declared.Net.{Net}
+use Rattle.board.specs.Job.{Job}
+use Rattle.packing.specs.Fits.{isEligible, fitsAt}
+use Rattle.candidates.specs.Gathered.{Candidate, candidatesFrom}
+
+abbrev pub candidateAt : ℕ → Net → Candidate
+candidateAt x n = record { index = x; net = n }
+
+module _ (job : Job) (earlier : List ℕ) (x : ℕ) (n : Net) (ns : List Net) where
+  pub candidates-eligible : isEligible job earlier n ≡ true → candidatesFrom job earlier x (n ∷ ns) ≡ candidateAt x n ∷ candidatesFrom job earlier (suc x) ns
+  unfolding candidatesFrom
+  candidates-eligible e = rw e
+
+  pub candidates-other : isEligible job earlier n ≡ false → candidatesFrom job earlier x (n ∷ ns) ≡ candidatesFrom job earlier (suc x) ns
+  unfolding candidatesFrom
+  candidates-other e = rw e
+
+pub other-fits : (job : Job) (earlier : List ℕ) (t : ℕ) (n : Net) (j : ℕ) → isEligible job earlier n ≡ false → fitsAt job earlier t n j ≡ false
+unfolding fitsAt
+other-fits job earlier t n j e = rw e
+
+-- there are no more candidates than nets
+pub candidates-count : (job : Job) (earlier : List ℕ) (x : ℕ) (ns : List Net) → length (candidatesFrom job earlier x ns) ≤ length ns
+unfolding candidatesFrom
+candidates-count job earlier x [] = omega arith
+candidates-count job earlier x (n ∷ ns) =
+    let h = candidates-count job earlier (suc x) ns in
+    by-test (isEligible job earlier n)
+    (λ e. rw e (omega arith))
+    (λ e. rw e (omega arith))

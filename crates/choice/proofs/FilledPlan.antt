@@ -12,11 +12,12 @@ use Rattle.lists.proofs.Cases.{by-test}
 use Rattle.board.specs.Job.{Job}
 use Rattle.board.specs.Accepted.{Accepted}
 use Rattle.packing.specs.Best.{best}
+use Rattle.packing.specs.Walk.{choiceAt}
 use Rattle.packing.proofs.ByRow.{best-last}
 use Rattle.candidates.specs.declared.Candidates.{Candidates}
 use Rattle.candidates.specs.Gathered.{Gathered}
 use Rattle.choice.specs.declared.Pick.{Pick}
-use Rattle.choice.specs.TrackPlans.{noChoice, choicesOf, trackPlanOf}
+use Rattle.choice.specs.TrackPlans.{noChoice, indexOf, choicesOf, trackPlanOf}
 use Rattle.choice.specs.Filled.{pickTo, fillFrom, filled}
 use Rattle.choice.proofs.RowBest.{row-pick-best}
 
@@ -61,7 +62,9 @@ module _ (job : Job) (earlier : List ℕ) (t : ℕ) (c : Candidates) (flags : Li
         let m = row-pick-best job earlier t c flags (suc i) table g rise (omega arith) h (b .bests) in
         let k : ℕ = job .board .rows - suc i in
         let e : job .board .rows - i ≡ suc k = omega arith in
-        let row : job .board .rows - k ≡ suc i = omega arith in
+        let row : suc i ≡ job .board .rows - k = omega arith in
+        let chosen : p .at ≡ indexOf job (choiceAt job earlier t (job .board .rows - k)) =
+        ap (λ (x : Pick). x .at) q ∙ m .1 ∙ ap (λ r. indexOf job (choiceAt job earlier t r)) row in
         record {
           table-length = length-set table (suc i) (p .sum) ∙ b .table-length;
           choice-length = length-set choice i (p .at) ∙ b .choice-length;
@@ -71,7 +74,9 @@ module _ (job : Job) (earlier : List ℕ) (t : ℕ) (c : Candidates) (flags : Li
               let z′ : r ≡ suc i = eqb-true _ _ z in
               rw (z′, getD-set-same table (suc i) (p .sum) 0 (omega (arith, b .table-length)), q) (m .0))
               (λ z. rw (getD-set-other table (suc i) r (p .sum) 0 (eqb-false r (suc i) z)) (b .bests r (omega (arith, eqb-false r (suc i) z)) l));
-          choices = rw (e, row, ← m .1, ← q, ← b .choices) (drop-set choice i (p .at) (omega (arith, b .choice-length)));
+          choices =
+              drop-set choice i (p .at) (omega (arith, b .choice-length)) ∙ ap₂ (λ x xs. x ∷ xs) chosen (b .choices)
+              ∙ sym (ap (λ n. choicesOf job earlier t n ++ replicate (1024 - job .board .rows) noChoice) e);
         }
 
     fill-below : (j : ℕ) (table choice : List ℕ) → j ≤ job .board .rows → FilledBelow j table choice → fillFrom c flags j table choice ≡ trackPlanOf job earlier t

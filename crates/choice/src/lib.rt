@@ -69,7 +69,8 @@ pub fn row_pick<'a>(
     let mut p = Pick { sum: next, at: 512 };
     for i in 0..count {
         if can_stand(first, last, flags, i, row) {
-            let sum = worth[i] + best[j + need[i]];
+            let value = worth[i];
+            let sum = value + best[j + need[i]];
             p = take_better(p, sum, net[i]);
         }
     }

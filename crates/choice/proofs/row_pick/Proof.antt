@@ -1,4 +1,5 @@
--- `choice::row_pick` meets its contract: before each turn the pick is that of the candidates looked at. Assumes nothing.
+-- `choice::row_pick` meets its contract: before each turn the pick is that of the candidates looked at. What the contract says comes
+-- first, then that each number fits and each index is in range. Assumes nothing.
 use Prim.Native.Nat.{_≤_, _-_}
 use mathlib.Core.Path.{_≡_, refl}
 use mathlib.Core.Logic.{⊎-elim}
@@ -15,6 +16,28 @@ Inv-loop count net need worth first last flags best row j next p₀ i₀ p i = (
 abbrev μ-loop : tie.MeasureT-loop
 μ-loop count net need worth first last flags best row j next p₀ i₀ p i = count - i
 
+loop-holds : tie.Need-loop-holds Inv-loop μ-loop
+unfolding pickTo
+loop-holds c = (omega arith, refl)
+
+loop-again : tie.Need-loop-again Inv-loop μ-loop
+unfolding sumAt
+loop-again c =
+    let inv = c .before .before .before .loop .inv in
+    let i = c .before .before .before .loop .i in
+    let can = c .before .can-stand .ensures in (
+      omega arith,
+      ⊎-elim
+          (λ w. pick-taken _ _ _ _ i can (inv .1) (w .0 .taken) (w .6) (w .5 .ensures))
+          (λ w. pick-passed _ _ _ _ i can (inv .1) (w .0 .left) (w .1))
+          (c .if1 .came),
+    )
+
+returns : tie.Need-returns Inv-loop μ-loop
+returns c =
+    let e : c .before .loop .i ≡ c .before .before .before .before .args .count = omega arith in
+    rw e at (c .before .loop .inv .1)
+
 add-next : tie.Need-add-next Inv-loop μ-loop
 add-next c = search needs
 
@@ -24,24 +47,20 @@ mul-next c = search needs
 element-copy-out-next : tie.Need-element-copy-out-next Inv-loop μ-loop
 element-copy-out-next c = search needs
 
-loop-holds : tie.Need-loop-holds Inv-loop μ-loop
-unfolding pickTo
-loop-holds c = (omega arith, refl)
-
 can-stand-requires : tie.Need-can-stand-requires Inv-loop μ-loop
 can-stand-requires c κs = search needs
+
+mul-value : tie.Need-mul-value Inv-loop μ-loop
+mul-value c = search needs
+
+element-copy-out-value : tie.Need-element-copy-out-value Inv-loop μ-loop
+element-copy-out-value c = search needs
 
 mul-sum : tie.Need-mul-sum Inv-loop μ-loop
 mul-sum c = search needs
 
 element-copy-out-sum : tie.Need-element-copy-out-sum Inv-loop μ-loop
 element-copy-out-sum c = search needs
-
-mul-sum-2 : tie.Need-mul-sum-2 Inv-loop μ-loop
-mul-sum-2 c = search needs
-
-element-copy-out-sum-2 : tie.Need-element-copy-out-sum-2 Inv-loop μ-loop
-element-copy-out-sum-2 c = search needs
 
 add-sum : tie.Need-add-sum Inv-loop μ-loop
 add-sum c =
@@ -50,15 +69,15 @@ add-sum c =
     let r = stands-room _ _ _ _ (start .pre) i (omega arith) (c .before .before .before .can-stand .ensures) (c .before .before .if1 .taken) in
     omega arith
 
-mul-sum-3 : tie.Need-mul-sum-3 Inv-loop μ-loop
-mul-sum-3 c =
+mul-sum-2 : tie.Need-mul-sum-2 Inv-loop μ-loop
+mul-sum-2 c =
     let start = c .before .before .before .before .before .before .before .before in
     let i = c .before .before .before .before .before .loop .i in
     let r = stands-room _ _ _ _ (start .pre) i (omega arith) (c .before .before .before .can-stand .ensures) (c .before .before .if1 .taken) in
     omega arith
 
-element-copy-out-sum-3 : tie.Need-element-copy-out-sum-3 Inv-loop μ-loop
-element-copy-out-sum-3 c =
+element-copy-out-sum-2 : tie.Need-element-copy-out-sum-2 Inv-loop μ-loop
+element-copy-out-sum-2 c =
     let start = c .before .before .before .before .before .before .before .before in
     let i = c .before .before .before .before .before .loop .i in
     let r = stands-room _ _ _ _ (start .pre) i (omega arith) (c .before .before .before .can-stand .ensures) (c .before .before .if1 .taken) in
@@ -86,24 +105,6 @@ add-i c = search needs
 loop-less : tie.Need-loop-less Inv-loop μ-loop
 loop-less c = search needs
 
-loop-again : tie.Need-loop-again Inv-loop μ-loop
-unfolding sumAt
-loop-again c =
-    let inv = c .before .before .before .loop .inv in
-    let i = c .before .before .before .loop .i in
-    let can = c .before .can-stand .ensures in (
-      omega arith,
-      ⊎-elim
-          (λ w. pick-taken _ _ _ _ i can (inv .1) (w .0 .taken) (w .6) (w .5 .ensures))
-          (λ w. pick-passed _ _ _ _ i can (inv .1) (w .0 .left) (w .1))
-          (c .if1 .came),
-    )
-
-returns : tie.Need-returns Inv-loop μ-loop
-returns c =
-    let e : c .before .loop .i ≡ c .before .before .before .before .args .count = omega arith in
-    rw e at (c .before .loop .inv .1)
-
 pub row-pick-spec : {M : Type 1} → statement M
 row-pick-spec =
     tie.close
@@ -115,13 +116,13 @@ row-pick-spec =
     element-copy-out-next
     loop-holds
     can-stand-requires
+    mul-value
+    element-copy-out-value
     mul-sum
     element-copy-out-sum
+    add-sum
     mul-sum-2
     element-copy-out-sum-2
-    add-sum
-    mul-sum-3
-    element-copy-out-sum-3
     add-sum-2
     mul-take-better
     element-copy-out-take-better

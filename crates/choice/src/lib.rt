@@ -20,7 +20,7 @@ pub struct Pick {
 }
 
 // The pick after one more net: it takes over only where its sum is more, so that of equal nets the first in the list is chosen.
-pub fn take_better(p: Pick, sum: usize, net: usize) -> Pick
+fn take_better(p: Pick, sum: usize, net: usize) -> Pick
     ensures { λ r. ⌜ r ≡ better p sum net ⌝ }
 {
     if p.sum < sum {
@@ -30,7 +30,7 @@ pub fn take_better(p: Pick, sum: usize, net: usize) -> Pick
 }
 
 // Whether candidate i can stand with its top at a row. The flags are read at its own tops only: outside them they hold anything.
-pub fn can_stand<'a>(
+fn can_stand<'a>(
     first: &'a [usize; 512],
     last: &'a [usize; 512],
     flags: &[u8],
@@ -49,8 +49,9 @@ pub fn can_stand<'a>(
     false
 }
 
-// best(j) and the choice for row j, in one pass over the candidates; best[r] is best(r) for the rows r below j.
-pub fn row_pick<'a>(
+// best(j) and the choice for row j, in one pass over the candidates; best[r] is best(r) for the rows r below j. The arrays of the
+// candidates are lent one by one, since the struct by value would be copied at each row.
+fn row_pick<'a>(
     count: usize,
     net: &'a [usize; 512],
     need: &'a [usize; 512],

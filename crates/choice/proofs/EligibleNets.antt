@@ -8,7 +8,8 @@ use lib.ListN.{length}
 use Rattle.lists.proofs.Cases.{by-test}
 use Rattle.board.specs.declared.Net.{Net}
 use Rattle.board.specs.Job.{Job}
-use Rattle.packing.specs.Fits.{isEligible, fitsAt}
+use Rattle.board.specs.Tests.{isEligible}
+use Rattle.packing.specs.Fits.{fitsAt}
 use Rattle.candidates.specs.Gathered.{Candidate, candidatesFrom}
 
 abbrev pub candidateAt : ℕ → Net → Candidate

@@ -13,7 +13,7 @@ use Rattle.board.specs.Job.{Job}
 use Rattle.board.specs.Accepted.{BoardInRange, AcceptedNet, Accepted}
 use Rattle.board.proofs.ShortestShape.{needed-covered, needed-pos, worth-range}
 use Rattle.board.proofs.Tops.{last-top-room, accepted-fits}
-use Rattle.packing.specs.Fits.{isEligible}
+use Rattle.board.specs.Tests.{isEligible}
 use Rattle.candidates.specs.declared.Candidates.{Candidates}
 use Rattle.candidates.specs.Gathered.{Candidate, candidatesFrom, candidatesOf, Slot, Slots, Gathered}
 use Rattle.choice.specs.Filled.{SlotInBounds, InBounds}

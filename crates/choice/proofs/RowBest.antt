@@ -15,7 +15,8 @@ use Rattle.board.specs.declared.Net.{Net}
 use Rattle.board.specs.Length.{needed}
 use Rattle.board.specs.Job.{Job}
 use Rattle.board.proofs.ShortestShape.{needed-pos}
-use Rattle.packing.specs.Fits.{isEligible, clearRows, fitsAt}
+use Rattle.board.specs.Tests.{isEligible, clearRows}
+use Rattle.packing.specs.Fits.{fitsAt}
 use Rattle.packing.specs.Best.{sumWith, table, bestLast}
 use Rattle.packing.specs.Best as M
 use Rattle.packing.specs.Walk.{choiceAt}

@@ -16,7 +16,6 @@ use Rattle.board.proofs.ShortestShape.{span-add}
 use Rattle.board.proofs.Tops.{shortest-bottom}
 use Rattle.board.proofs.ExactTests.{eligible-exact, clear-rows, rows-clear}
 use Rattle.packing.specs.Fits.{fitsAt}
-pub use Rattle.board.proofs.ExactTests.{clear-rows, rows-clear, on-listed, not-on}
 
 module _ (job : Job) (earlier : List ℕ) (t : ℕ) (n : Net) (j : ℕ) where
   -- the parts of a passed test

@@ -6,7 +6,7 @@ use lib.Dec.{leb}
 use Rattle.board.specs.declared.Net.{Net}
 use Rattle.board.specs.Length.{shortest, needed}
 use Rattle.board.specs.Job.{Job}
-unfoldable pub use Rattle.board.specs.Tests.{isOn, isBefore, isEligible, clearRows}
+use Rattle.board.specs.Tests.{isEligible, clearRows}
 use Rattle.board.specs.Placement.{firstTop, lastTop}
 
 -- net n is eligible, and its shortest placement with its top at row j is on the board and clear of blocks

@@ -1,11 +1,10 @@
 -- The laws of the definitions in specs/.
 pub mod Joins
-pub mod Shortest
 pub mod Tests
 pub mod Accepts
 pub mod StoredJobs
 pub mod Outcomes
 pub mod LineFaults
 pub mod Refusals
-pub mod Texts
 pub mod Returned
+pub mod Texts

@@ -1,30 +1,31 @@
 -- A line is refused for that of its faults which has the smallest number, and goes through where it has none. Assumes nothing.
-use Prim.Native.Nat.{ℕ, suc, _≤_, _<_}
+use Prim.Native.Nat.{ℕ, _≤_, _<_}
 use mathlib.Core.Path.{_≡_, refl, sym, ap, subst, _∙_}
-use mathlib.Core.Bool.{Bool, true, false, not}
-use mathlib.Core.List.{List, [], _∷_, _++_, append-nil}
+use mathlib.Core.Logic.{⊎-elim}
+use mathlib.Core.Bool.{true, false}
+use mathlib.Core.List.{List, [], _∷_, _++_, map, List·Memᴰ, List·Memᴰ·head, List·Memᴰ·tail, List·Memᴰ·not-nil, List·Memᴰ·cases-cons, append-nil}
 use native.Mathlib.Omega.{arith}
-use lib.Dec.{eqb, leb, ltb}
+use lib.Dec.{eqb, ltb}
 use lib.ListN.{length}
 use borrow.Author.Tests.{leb-true, leb-false, ltb-true, ltb-false, eqb-true, eqb-false, not-false}
-use Rattle.lists.specs.Lists.{Each, allOf}
+use Rattle.lists.specs.Lists.{Each, EachPair, allOf}
 use Rattle.lists.proofs.Cases.{by-test}
 use Rattle.lists.proofs.Laws.{allOf-at}
 use Rattle.board.specs.declared.Net.{Net}
 use Rattle.board.specs.declared.Block.{Block}
+use Rattle.board.specs.declared.Shape.{Shape}
 use Rattle.board.specs.Job.{Job}
-use Rattle.board.specs.Length.{lengthOf, shortest, needed}
+use Rattle.board.specs.Length.{Allowed, needed}
+use Rattle.board.specs.Accepted.{NetInRange, BlockInRange}
 use Rattle.jobfile.specs.declared.Form.{Form}
 use Rattle.jobfile.specs.declared.Form.the-variants as Is
 use Rattle.jobfile.specs.declared.Outcome.{Outcome}
 use Rattle.jobfile.specs.declared.Outcome.the-variants.{NotOfForm, OutOfRange, TooMany, NumberNotAbove, PinUsed, SameRow, NoLength, TooFewRows}
-use Rattle.jobfile.specs.Read.{State, start, opened, sized, filled, closed, Next, go, stop, unless, atStart, atOpened, atSized, atFilled, within, netOf, blockOf, boardOf, emptyBoard, withNet, withBlock, netInRange, blockInRange, lastNumber, pinsFree, addNet, addBlock, step}
-use Rattle.jobfile.specs.Answers.{numberOf, lineOf}
-use Rattle.jobfile.specs.Stored.{noJob}
+use Rattle.jobfile.specs.Read.{State, start, opened, sized, filled, closed, Next, go, stop, Test, test, tested, atStart, atOpened, atSized, atFilled, rowsInRange, tracksInRange, netOf, blockOf, boardOf, emptyBoard, withNet, withBlock, aboveLast, pinsFree, netTests, blockTests, addNet, addBlock, step}
+use Rattle.jobfile.specs.Answers.{numberOf, lineOf, noJob}
 use Rattle.jobfile.specs.Faults.{withForm, jobFrom, jobIn, isBlank, nonBlank, Item, net, block, Ordered, MayFollow, NetFault, net-range, net-count, not-above, left-used, right-used, same-row, no-length, too-few-rows, BlockFault, block-range, block-count, LineFault, not-of-form, rows-range, tracks-range, of-net, of-block}
 use Rattle.jobfile.proofs.Joins.{Each-join, Each-right, allOf-false}
-use Rattle.jobfile.proofs.Tests.{denied, within-is, differ-is, net-range-is, block-range-is, free-is, length-is, last-number, last-net}
-use Rattle.jobfile.proofs.Outcomes.{same-outcome, number-below}
+use Rattle.jobfile.proofs.Tests.{denied, rows-is, tracks-is, net-range-is, block-range-is, above-is, not-above-last, free-is, ends-is, length-is}
 
 -- ---- tests in the order of their numbers
 
@@ -43,79 +44,81 @@ judged-same : (F H : Outcome → Type 0) (G : State → Type 0) (x : Next) → (
 judged-same F H G (go s) f h j = (j .0, λ o p. j .1 o (h o p))
 judged-same F H G (stop o) f h j = record { fault = f o (j .fault); least = λ p q. j .least p (h p q) }
 
-module _ (k : ℕ) (F : Outcome → Type 0) (on-line : (o : Outcome) → F o → lineOf o ≡ k) (G : State → Type 0) where
-  -- no fault has a number below i
-  abbrev Below : ℕ → Type 0
-  Below i = (o : Outcome) → numberOf o < i → F o → ⊥
+-- the tests stand in the order of the document's numbers
+abbrev Rising : List Test → Type 0
+Rising ts = EachPair (λ s t. numberOf (s .otherwise) < numberOf (t .otherwise)) ts
 
-  below-next : (o : Outcome) → lineOf o ≡ k → Below (numberOf o) → (F o → ⊥) → Below (suc (numberOf o))
-  below-next o l b n p h f =
-      by-test (ltb (numberOf p) (numberOf o))
-      (λ e. b p (ltb-true _ _ e) f)
-      (λ e.
-      let m : numberOf o ≤ numberOf p = ltb-false _ _ e in
-      let q = same-outcome p o (omega arith) (on-line p f ∙ sym l) in
-      n (rw q at f))
+-- a test fails exactly where the line has the fault that it stands for
+record Stands (F : Outcome → Type 0) (t : Test) : Type 0 where
+  fails : t .passed ≡ false → F (t .otherwise)
+  passes : t .passed ≡ true → F (t .otherwise) → ⊥
 
-  -- a test that stands for the fault o, where all faults of a smaller number are ruled out
-  unless-judged : (b : Bool) (o : Outcome) (x : Next) → lineOf o ≡ k → Below (numberOf o) → (b ≡ false → F o) →
-      (b ≡ true → F o → ⊥) → (b ≡ true → Below (suc (numberOf o)) → Judged F G x) → Judged F G (unless b o x)
-  unfolding unless
-  unless-judged true o x l b f n g = g refl (below-next o l b (n refl))
-  unless-judged false o x l b f n g =
-      record {
-        fault = f refl;
-        least = λ p q.
-            by-test (leb (numberOf o) (numberOf p))
-            (λ e. leb-true _ _ e)
-            (λ e. absurd (b p (leb-false _ _ e) q));
-      }
+-- what the tests stand for
+abbrev outcomes : List Test → List Outcome
+outcomes ts = map (λ t. t .otherwise) ts
 
-  -- behind the last test no fault is left
-  none-left : (i : ℕ) → 10 ≤ i → Below i → (o : Outcome) → F o → ⊥
-  none-left i h b o f = b o (omega (arith, number-below o)) f
+-- where they rise, a fault of a later test has a larger number
+later-number : (t : Test) (ts : List Test) (p : Outcome) → Each (λ u. numberOf (t .otherwise) < numberOf (u .otherwise)) ts →
+    List·Memᴰ p (outcomes ts) → numberOf (t .otherwise) ≤ numberOf p
+later-number t [] p a m = absurd (List·Memᴰ·not-nil m)
+later-number t (u ∷ ts) p a m =
+    ⊎-elim
+    (λ (q : p ≡ u .otherwise). omega (arith, a .0, ap numberOf q))
+    (λ i. later-number t ts p (a .1) i)
+    (List·Memᴰ·cases-cons m)
+
+module _ (F : Outcome → Type 0) (G : State → Type 0) (s : State) (good : G s) where
+  -- tests that rise and stand for all the faults of a line
+  tested-judged : (ts : List Test) → Rising ts → Each (Stands F) ts → ((o : Outcome) → F o → List·Memᴰ o (outcomes ts)) →
+      Judged F G (tested ts (go s))
+  unfolding tested
+  tested-judged [] r a c = (good, λ o f. List·Memᴰ·not-nil (c o f))
+  tested-judged (t ∷ ts) r a c =
+      let rest = tested-judged ts (r .1) (a .1) in
+      by-test (t .passed)
+      (λ e. rw e (rest (λ o f. ⊎-elim
+      (λ (q : o ≡ t .otherwise). absurd (a .0 .passes e (rw q at f)))
+      (λ m. m)
+      (List·Memᴰ·cases-cons (c o f)))))
+      (λ e. rw e (record {
+        fault = a .0 .fails e;
+        least = λ p f. ⊎-elim
+            (λ (q : p ≡ t .otherwise). omega (arith, ap numberOf q))
+            (λ m. later-number t ts p (r .0) m)
+            (List·Memᴰ·cases-cons (c p f));
+      }))
 
 -- ---- a net
 
-net-line : (job : Job) (n : Net) (k : ℕ) (o : Outcome) → NetFault job n k o → lineOf o ≡ k
-net-line job n k o (net-range x) = refl
-net-line job n k o (net-count x) = refl
-net-line job n k o (not-above ms m e h) = refl
-net-line job n k o (left-used m i e) = refl
-net-line job n k o (right-used m i e) = refl
-net-line job n k o (same-row x) = refl
-net-line job n k o (no-length x) = refl
-net-line job n k o (too-few-rows x) = refl
-
-net-from : (job : Job) (n : Net) (k : ℕ) (o : Outcome) → NetFault job n k o → 3 ≤ numberOf o
-net-from job n k o (net-range x) = omega arith
-net-from job n k o (net-count x) = omega arith
-net-from job n k o (not-above ms m e h) = omega arith
-net-from job n k o (left-used m i e) = omega arith
-net-from job n k o (right-used m i e) = omega arith
-net-from job n k o (same-row x) = omega arith
-net-from job n k o (no-length x) = omega arith
-net-from job n k o (too-few-rows x) = omega arith
+net-at : (job : Job) (n : Net) (k : ℕ) (o : Outcome) → NetFault job n k o → (lineOf o ≡ k) × (3 ≤ numberOf o)
+net-at job n k o (net-range x) = (refl, omega arith)
+net-at job n k o (net-count x) = (refl, omega arith)
+net-at job n k o (not-above ms m e h) = (refl, omega arith)
+net-at job n k o (left-used m i e) = (refl, omega arith)
+net-at job n k o (right-used m i e) = (refl, omega arith)
+net-at job n k o (same-row x) = (refl, omega arith)
+net-at job n k o (no-length x) = (refl, omega arith)
+net-at job n k o (too-few-rows x) = (refl, omega arith)
 
 module _ (job : Job) (n : Net) (k : ℕ) where
-  no-range : netInRange (job .board) n ≡ true → NetFault job n k (OutOfRange k) → ⊥
-  no-range e (net-range x) = x (net-range-is (job .board) n .0 e)
+  range-of : NetFault job n k (OutOfRange k) → NetInRange (job .board) n → ⊥
+  range-of (net-range x) = x
 
-  no-count : ltb (length (job .nets)) 512 ≡ true → NetFault job n k (TooMany k) → ⊥
-  no-count e (net-count x) = omega (arith, ltb-true (length (job .nets)) 512 e)
+  count-of : NetFault job n k (TooMany k) → 512 ≤ length (job .nets)
+  count-of (net-count x) = x
 
-  no-above : ltb (lastNumber 0 (job .nets)) (n .number) ≡ true → NetFault job n k (NumberNotAbove k) → ⊥
+  no-above : aboveLast (job .nets) (n .number) ≡ true → NetFault job n k (NumberNotAbove k) → ⊥
   no-above e (not-above ms m q h) =
-      let l : lastNumber 0 (job .nets) ≡ m .number = ap (lastNumber 0) q ∙ last-number 0 ms m in
-      omega (arith, ltb-true (lastNumber 0 (job .nets)) (n .number) e)
+      let l : m .number < n .number = above-is ms m (n .number) .0 (sym (ap (λ ns. aboveLast ns (n .number)) q) ∙ e) in
+      omega arith
 
-  some-above : (ns : List Net) → job .nets ≡ ns → 1 ≤ n .number → n .number ≤ lastNumber 0 ns →
-      NetFault job n k (NumberNotAbove k)
-  unfolding lastNumber
-  some-above [] q a h = absurd (omega arith)
-  some-above (m ∷ ns) q a h =
-      let l = last-net 0 m ns in
-      not-above (l .before) (l .last) (q ∙ l .is-last) (omega (arith, l .has-number))
+  some-above : aboveLast (job .nets) (n .number) ≡ false → NetFault job n k (NumberNotAbove k)
+  some-above e =
+      let l = not-above-last (job .nets) (n .number) e in
+      let d = sym (ap (λ ns. aboveLast ns (n .number)) (l .is-last)) ∙ e in
+      by-test (ltb (l .last .number) (n .number))
+      (λ t. absurd (denied _ (above-is (l .before) (l .last) (n .number)) d (ltb-true _ _ t)))
+      (λ t. not-above (l .before) (l .last) (l .is-last) (ltb-false _ _ t))
 
   no-used : allOf (pinsFree n) (job .nets) ≡ true → NetFault job n k (PinUsed k) → ⊥
   no-used e (left-used m i q) = free-is n m .0 (allOf-at (pinsFree n) (job .nets) m e i) .0 q
@@ -132,66 +135,105 @@ module _ (job : Job) (n : Net) (k : ℕ) where
       (λ p. right-used m (r .1) (eqb-true _ _ p))
       (λ p. absurd (denied (pinsFree n m) (free-is n m) (r .2) (eqb-false _ _ q, eqb-false _ _ p))))
 
-  no-same : not (eqb (n .left .0) (n .right .0)) ≡ true → NetFault job n k (SameRow k) → ⊥
-  no-same e (same-row x) = differ-is (n .left .0) (n .right .0) .0 e x
+  row-of : NetFault job n k (SameRow k) → n .left .0 ≡ n .right .0
+  row-of (same-row x) = x
 
-  no-none : leb (lengthOf (job .board) n (shortest (job .board) n)) (n .max) ≡ true → NetFault job n k (NoLength k) → ⊥
-  no-none e (no-length x) = let s = length-is (job .board) n .0 e in x (s .0) (s .1)
+  length-of : NetFault job n k (NoLength k) → (s : Shape) → Allowed (job .board) n s → ⊥
+  length-of (no-length x) = x
 
-  no-rows : leb (needed (job .board) n) (job .board .rows) ≡ true → NetFault job n k (TooFewRows k) → ⊥
-  no-rows e (too-few-rows x) = omega (arith, leb-true (needed (job .board) n) (job .board .rows) e)
+  rows-of : NetFault job n k (TooFewRows k) → job .board .rows < needed (job .board) n
+  rows-of (too-few-rows x) = x
+
+  net-rising : Rising (netTests k n job)
+  unfolding netTests
+  net-rising = omega arith
+
+  net-stands : Each (Stands (NetFault job n k)) (netTests k n job)
+  unfolding netTests
+  net-stands = (
+    record {
+      fails = λ e. net-range (denied _ (net-range-is (job .board) n) e);
+      passes = λ e f. range-of f (net-range-is (job .board) n .0 e);
+    },
+    (
+      record { fails = λ e. net-count (omega (arith, ltb-false)); passes = λ e f. omega (arith, ltb-true, count-of f) },
+      (
+        record { fails = some-above; passes = no-above },
+        (
+          record { fails = some-used; passes = no-used },
+          (
+            record { fails = λ e. same-row (eqb-true _ _ (not-false _ e)); passes = λ e f. ends-is n .0 e (row-of f) },
+            (
+              record {
+                fails = λ e. no-length (λ s a. denied _ (length-is (job .board) n) e (s, a));
+                passes = λ e f. let s = length-is (job .board) n .0 e in length-of f (s .0) (s .1);
+              },
+              (
+                record { fails = λ e. too-few-rows (omega (arith, leb-false)); passes = λ e f. omega (arith, leb-true, rows-of f) },
+                tt,
+              ),
+            ),
+          ),
+        ),
+      ),
+    ),
+  )
+
+  net-covered : (o : Outcome) → NetFault job n k o → List·Memᴰ o (outcomes (netTests k n job))
+  unfolding netTests
+  net-covered o (net-range x) = List·Memᴰ·head refl
+  net-covered o (net-count x) = search (List·Memᴰ·head, List·Memᴰ·tail) depth 9
+  net-covered o (not-above ms m e h) = search (List·Memᴰ·head, List·Memᴰ·tail) depth 9
+  net-covered o (left-used m i e) = search (List·Memᴰ·head, List·Memᴰ·tail) depth 9
+  net-covered o (right-used m i e) = search (List·Memᴰ·head, List·Memᴰ·tail) depth 9
+  net-covered o (same-row x) = search (List·Memᴰ·head, List·Memᴰ·tail) depth 9
+  net-covered o (no-length x) = search (List·Memᴰ·head, List·Memᴰ·tail) depth 9
+  net-covered o (too-few-rows x) = search (List·Memᴰ·head, List·Memᴰ·tail) depth 9
 
   net-judged : (G : State → Type 0) → G (filled (withNet job n)) → Judged (NetFault job n k) G (addNet k n job)
   unfolding addNet
   net-judged G g =
-      let F = NetFault job n k in
-      let on = net-line job n k in
-      unless-judged k F on G _ (OutOfRange k) _ refl (λ o h f. omega (arith, net-from job n k o f))
-      (λ e. net-range (denied _ (net-range-is (job .board) n) e)) no-range (λ e3 b3.
-      unless-judged k F on G _ (TooMany k) _ refl b3
-      (λ e. net-count (ltb-false _ _ e)) no-count (λ e4 b4.
-      unless-judged k F on G _ (NumberNotAbove k) _ refl b4
-      (λ e. some-above (job .nets) refl (net-range-is (job .board) n .0 e3 .number-range .0) (ltb-false _ _ e)) no-above (λ e5 b5.
-      unless-judged k F on G _ (PinUsed k) _ refl b5 some-used no-used (λ e6 b6.
-      unless-judged k F on G _ (SameRow k) _ refl b6
-      (λ e. same-row (eqb-true _ _ (not-false _ e))) no-same (λ e7 b7.
-      unless-judged k F on G _ (NoLength k) _ refl b7
-      (λ e. no-length (λ s a. denied _ (length-is (job .board) n) e (s, a))) no-none (λ e8 b8.
-      unless-judged k F on G _ (TooFewRows k) _ refl b8
-      (λ e. too-few-rows (leb-false _ _ e)) no-rows (λ e9 b9.
-      (g, none-left k F on G 10 (omega arith) b9))))))))
+      tested-judged (NetFault job n k) G (filled (withNet job n)) g (netTests k n job) net-rising net-stands net-covered
 
 -- ---- a block
 
-block-line : (job : Job) (b : Block) (k : ℕ) (o : Outcome) → BlockFault job b k o → lineOf o ≡ k
-block-line job b k o (block-range x) = refl
-block-line job b k o (block-count x) = refl
-
-block-from : (job : Job) (b : Block) (k : ℕ) (o : Outcome) → BlockFault job b k o → 3 ≤ numberOf o
-block-from job b k o (block-range x) = omega arith
-block-from job b k o (block-count x) = omega arith
-
-block-to : (job : Job) (b : Block) (k : ℕ) (o : Outcome) → BlockFault job b k o → numberOf o ≤ 4
-block-to job b k o (block-range x) = omega arith
-block-to job b k o (block-count x) = omega arith
+block-at : (job : Job) (b : Block) (k : ℕ) (o : Outcome) → BlockFault job b k o → (lineOf o ≡ k) × (3 ≤ numberOf o)
+block-at job b k o (block-range x) = (refl, omega arith)
+block-at job b k o (block-count x) = (refl, omega arith)
 
 module _ (job : Job) (b : Block) (k : ℕ) where
-  no-block-range : blockInRange (job .board) b ≡ true → BlockFault job b k (OutOfRange k) → ⊥
-  no-block-range e (block-range x) = x (block-range-is (job .board) b .0 e)
+  block-range-of : BlockFault job b k (OutOfRange k) → BlockInRange (job .board) b → ⊥
+  block-range-of (block-range x) = x
 
-  no-block-count : ltb (length (job .blocks)) 256 ≡ true → BlockFault job b k (TooMany k) → ⊥
-  no-block-count e (block-count x) = omega (arith, ltb-true (length (job .blocks)) 256 e)
+  block-count-of : BlockFault job b k (TooMany k) → 256 ≤ length (job .blocks)
+  block-count-of (block-count x) = x
+
+  block-rising : Rising (blockTests k b job)
+  unfolding blockTests
+  block-rising = omega arith
+
+  block-stands : Each (Stands (BlockFault job b k)) (blockTests k b job)
+  unfolding blockTests
+  block-stands = (
+    record {
+      fails = λ e. block-range (denied _ (block-range-is (job .board) b) e);
+      passes = λ e f. block-range-of f (block-range-is (job .board) b .0 e);
+    },
+    (
+      record { fails = λ e. block-count (omega (arith, ltb-false)); passes = λ e f. omega (arith, ltb-true, block-count-of f) },
+      tt,
+    ),
+  )
+
+  block-covered : (o : Outcome) → BlockFault job b k o → List·Memᴰ o (outcomes (blockTests k b job))
+  unfolding blockTests
+  block-covered o (block-range x) = List·Memᴰ·head refl
+  block-covered o (block-count x) = List·Memᴰ·tail (List·Memᴰ·head refl)
 
   block-judged : (G : State → Type 0) → G (filled (withBlock job b)) → Judged (BlockFault job b k) G (addBlock k b job)
   unfolding addBlock
   block-judged G g =
-      let F = BlockFault job b k in
-      let on = block-line job b k in
-      unless-judged k F on G _ (OutOfRange k) _ refl (λ o h f. omega (arith, block-from job b k o f))
-      (λ e. block-range (denied _ (block-range-is (job .board) b) e)) no-block-range (λ e3 b3.
-      unless-judged k F on G _ (TooMany k) _ refl b3
-      (λ e. block-count (ltb-false _ _ e)) no-block-count (λ e4 b4.
-      (g, λ o f. b4 o (omega (arith, block-to job b k o f)) f)))
+      tested-judged (BlockFault job b k) G (filled (withBlock job b)) g (blockTests k b job) block-rising block-stands block-covered
 
 -- ---- what the lines above hold
 
@@ -276,20 +318,14 @@ not-both fs a b =
 
 -- ---- a line
 
-pub line-from : (above : List Form) (k : ℕ) (f : Form) (o : Outcome) → LineFault above k f o → 2 ≤ numberOf o
-line-from above k f o (not-of-form x) = omega arith
-line-from above k f o (rows-range x) = omega arith
-line-from above k f o (tracks-range x) = omega arith
-line-from above k f o (of-net {i = i} {l = l} {r = r} {lo = lo} {hi = hi} x) =
-    omega (arith, net-from (jobIn above) (netOf i l r lo hi) k o x)
-line-from above k f o (of-block {t = t} {a = a} {b = b} x) = omega (arith, block-from (jobIn above) (blockOf t a b) k o x)
-
-pub fault-line : (above : List Form) (k : ℕ) (f : Form) (o : Outcome) → LineFault above k f o → lineOf o ≡ k
-fault-line above k f o (not-of-form x) = refl
-fault-line above k f o (rows-range x) = refl
-fault-line above k f o (tracks-range x) = refl
-fault-line above k f o (of-net {i = i} {l = l} {r = r} {lo = lo} {hi = hi} x) = net-line (jobIn above) (netOf i l r lo hi) k o x
-fault-line above k f o (of-block {t = t} {a = a} {b = b} x) = block-line (jobIn above) (blockOf t a b) k o x
+pub fault-at : (above : List Form) (k : ℕ) (f : Form) (o : Outcome) → LineFault above k f o → (lineOf o ≡ k) × (2 ≤ numberOf o)
+fault-at above k f o (not-of-form x) = (refl, omega arith)
+fault-at above k f o (rows-range x) = (refl, omega arith)
+fault-at above k f o (tracks-range x) = (refl, omega arith)
+fault-at above k f o (of-net {i = i} {l = l} {r = r} {lo = lo} {hi = hi} x) =
+    let a = net-at (jobIn above) (netOf i l r lo hi) k o x in (a .0, omega arith)
+fault-at above k f o (of-block {t = t} {a = a} {b = b} x) =
+    let a = block-at (jobIn above) (blockOf t a b) k o x in (a .0, omega arith)
 
 module _ (above : List Form) (k : ℕ) where
   -- what line k of form f leads to is right
@@ -298,14 +334,7 @@ module _ (above : List Form) (k : ℕ) where
 
   -- a form in a wrong place
   wrong : (f : Form) → (MayFollow above f → ⊥) → Line f (stop (NotOfForm k))
-  wrong f deny = record { fault = not-of-form deny; least = λ p q. line-from above k f p q }
-
-  -- the one test of a form in its place
-  range-judged : (f : Form) (b : Bool) (x : Next) → ((o : Outcome) → LineFault above k f o → 3 ≤ numberOf o) →
-      (b ≡ false → LineFault above k f (OutOfRange k)) → (b ≡ true → Line f x) → Line f (unless b (OutOfRange k) x)
-  unfolding unless
-  range-judged f true x from g h = h refl
-  range-judged f false x from g h = record { fault = g refl; least = λ p q. from p q }
+  wrong f deny = record { fault = not-of-form deny; least = λ p q. fault-at above k f p q .1 }
 
   at-start : (s : State) (x : Next) → Reached s above → (Reached start above → Line Is.Board x) → Line Is.Board (atStart k s x)
   unfolding atStart
@@ -349,22 +378,20 @@ module _ (above : List Form) (k : ℕ) where
   no-board : Reached start above → (o : Outcome) → LineFault above k Is.Board o → ⊥
   no-board r o (not-of-form x) = x (r .0)
 
-  rows-from : (h : ℕ) → Reached opened above → (o : Outcome) → LineFault above k (Is.Rows h) o → 3 ≤ numberOf o
-  rows-from h r o (not-of-form x) = absurd (x (r .0))
-  rows-from h r o (rows-range x) = omega arith
+  rows-of-line : {h : ℕ} → LineFault above k (Is.Rows h) (OutOfRange k) → (1 ≤ h) × (h ≤ 1024) → ⊥
+  rows-of-line (rows-range x) = x
 
-  no-rows-fault : (h : ℕ) → Reached opened above → (1 ≤ h) × (h ≤ 1024) → (o : Outcome) → LineFault above k (Is.Rows h) o → ⊥
-  no-rows-fault h r a o (not-of-form x) = x (r .0)
-  no-rows-fault h r a o (rows-range x) = x a
+  rows-only : (h : ℕ) → Reached opened above → (o : Outcome) → LineFault above k (Is.Rows h) o → List·Memᴰ o (OutOfRange k ∷ [])
+  rows-only h r o (not-of-form x) = absurd (x (r .0))
+  rows-only h r o (rows-range x) = List·Memᴰ·head refl
 
-  tracks-from : (t h : ℕ) → Reached (sized h) above → (o : Outcome) → LineFault above k (Is.Tracks t) o → 3 ≤ numberOf o
-  tracks-from t h r o (not-of-form x) = absurd (x (h, r .0))
-  tracks-from t h r o (tracks-range x) = omega arith
+  tracks-of-line : {t : ℕ} → LineFault above k (Is.Tracks t) (OutOfRange k) → (1 ≤ t) × (t ≤ 128) → ⊥
+  tracks-of-line (tracks-range x) = x
 
-  no-tracks-fault : (t h : ℕ) → Reached (sized h) above → (1 ≤ t) × (t ≤ 128) → (o : Outcome) →
-      LineFault above k (Is.Tracks t) o → ⊥
-  no-tracks-fault t h r a o (not-of-form x) = x (h, r .0)
-  no-tracks-fault t h r a o (tracks-range x) = x a
+  tracks-only : (t h : ℕ) → Reached (sized h) above → (o : Outcome) → LineFault above k (Is.Tracks t) o →
+      List·Memᴰ o (OutOfRange k ∷ [])
+  tracks-only t h r o (not-of-form x) = absurd (x (h, r .0))
+  tracks-only t h r o (tracks-range x) = List·Memᴰ·head refl
 
   net-only : (i l r lo hi : ℕ) → Ordered [] above → (o : Outcome) → LineFault above k (Is.Net i l r lo hi) o →
       NetFault (jobIn above) (netOf i l r lo hi) k o
@@ -384,35 +411,27 @@ module _ (above : List Form) (k : ℕ) where
   unfolding withForm
   board-line r = ((lines-more above Is.Board refl ∙ (rw (r .0)), job-more noJob above Is.Board ∙ r .1), no-board r)
 
-  rows-line : (h : ℕ) → Reached opened above → Line (Is.Rows h) (unless (within 1 1024 h) (OutOfRange k) (go (sized h)))
+  rows-line : (h : ℕ) → Reached opened above → Line (Is.Rows h) (tested (test (rowsInRange h) (OutOfRange k) ∷ []) (go (sized h)))
   unfolding withForm
   rows-line h r =
-      range-judged (Is.Rows h) (within 1 1024 h) (go (sized h)) (rows-from h r)
-      (λ e. rows-range (denied _ (within-is 1 1024 h) e))
-      (λ e. (
-        (lines-more above (Is.Rows h) refl ∙ (rw (r .0)), job-more noJob above (Is.Rows h) ∙ (rw (r .1))),
-        no-rows-fault h r (within-is 1 1024 h .0 e),
-      ))
+      tested-judged (LineFault above k (Is.Rows h)) (λ s. Reached s (above ++ (Is.Rows h ∷ []))) (sized h)
+      (lines-more above (Is.Rows h) refl ∙ (rw (r .0)), job-more noJob above (Is.Rows h) ∙ (rw (r .1)))
+      (test (rowsInRange h) (OutOfRange k) ∷ []) (tt, tt)
+      (record { fails = λ e. rows-range (denied _ (rows-is h) e); passes = λ e f. rows-of-line f (rows-is h .0 e) }, tt)
+      (rows-only h r)
 
   tracks-line : (t h : ℕ) → Reached (sized h) above →
-      Line (Is.Tracks t) (unless (within 1 128 t) (OutOfRange k) (go (filled (emptyBoard (boardOf h t)))))
+      Line (Is.Tracks t) (tested (test (tracksInRange t) (OutOfRange k) ∷ []) (go (filled (emptyBoard (boardOf h t)))))
   unfolding withForm
   tracks-line t h r =
-      range-judged (Is.Tracks t) (within 1 128 t) (go (filled (emptyBoard (boardOf h t)))) (tracks-from t h r)
-      (λ e. tracks-range (denied _ (within-is 1 128 t) e))
-      (λ e. (
-        (
-          record {
-            rows = h;
-            tracks = t;
-            items = [];
-            lines-are = lines-more above (Is.Tracks t) refl ∙ (rw (r .0));
-            items-are = tt;
-          },
-          job-more noJob above (Is.Tracks t) ∙ (rw (r .1)),
-        ),
-        no-tracks-fault t h r (within-is 1 128 t .0 e),
-      ))
+      let f = Is.Tracks t in
+      let a : Ordered [] (above ++ (f ∷ [])) =
+      record { rows = h; tracks = t; items = []; lines-are = lines-more above f refl ∙ (rw (r .0)); items-are = tt } in
+      tested-judged (LineFault above k f) (λ s. Reached s (above ++ (f ∷ []))) (filled (emptyBoard (boardOf h t)))
+      (a, job-more noJob above f ∙ (rw (r .1)))
+      (test (tracksInRange t) (OutOfRange k) ∷ []) (tt, tt)
+      (record { fails = λ e. tracks-range (denied _ (tracks-is t) e); passes = λ e f. tracks-of-line f (tracks-is t .0 e) }, tt)
+      (tracks-only t h r)
 
   net-line-judged : (i l r lo hi : ℕ) (job : Job) → Reached (filled job) above →
       Line (Is.Net i l r lo hi) (addNet k (netOf i l r lo hi) job)

@@ -4,9 +4,7 @@ use mathlib.Core.Path.{_≡_, refl, sym, ap, subst, _∙_}
 use mathlib.Core.Logic.{_↔_, _⊎_, inl, inr, ⊎-elim}
 use mathlib.Core.List.{List, [], _∷_, _++_, map, append-assoc, append-nil}
 use native.Mathlib.Omega.{arith}
-use lib.Dec.{leb}
 use lib.ListN.{length, length-append}
-use borrow.Author.Tests.{leb-true, leb-false}
 use Rattle.lists.proofs.Cases.{by-test}
 use Rattle.board.specs.Job.{Job}
 use Rattle.text.specs.Bytes.{lines}
@@ -15,11 +13,12 @@ use Rattle.jobfile.specs.declared.Form.the-variants as Is
 use Rattle.jobfile.specs.declared.Outcome.{Outcome}
 use Rattle.jobfile.specs.declared.Outcome.the-variants.{TooLong, NotOfForm}
 use Rattle.jobfile.specs.Forms.{readForm}
-use Rattle.jobfile.specs.Read.{State, start, opened, sized, filled, closed, Next, go, stop, step, Read, accepted, refused, ended, follow, readFrom, readJob}
+use Rattle.jobfile.specs.Read.{State, start, opened, sized, filled, closed, Next, go, stop, step, Read, accepted, refused, ended, follow, readFrom, shortEnough, readJob}
 use Rattle.jobfile.specs.Answers.{numberOf, lineOf}
 use Rattle.jobfile.specs.Faults.{formsOf, jobFrom, jobIn, nonBlank, Ordered, LineFault, Fault, too-long, on-line, ends-early, FirstFault}
+use Rattle.jobfile.proofs.Tests.{short-is, not-short}
 use Rattle.jobfile.proofs.Outcomes.{same-outcome}
-use Rattle.jobfile.proofs.LineFaults.{Reached, not-both, line-from, fault-line, Line, step-judged}
+use Rattle.jobfile.proofs.LineFaults.{Reached, not-both, fault-at, Line, step-judged}
 
 -- ---- faults below some lines
 
@@ -66,7 +65,7 @@ in-cons above fs f o (end q x) =
 -- a fault's line is below those above
 fault-below : (above fs : List Form) (o : Outcome) → FaultIn above fs o → suc (length above) ≤ lineOf o
 fault-below above fs o (line ms f bs e x) =
-    omega (arith, fault-line (above ++ ms) (suc (length (above ++ ms))) f o x, length-append above ms)
+    omega (arith, fault-at (above ++ ms) (suc (length (above ++ ms))) f o x, length-append above ms)
 fault-below above fs o (end q x) = omega (arith, ap lineOf q, length-append above fs)
 
 -- ---- the lines from a line on
@@ -113,7 +112,7 @@ module _ (above fs : List Form) (f : Form) where
   unfolding follow
   follow-right (go t) g j h = right-later (g t) (j .1) (h t (j .0))
   follow-right (stop o) g j h =
-      let k = fault-line above (suc (length above)) f o (j .fault) in
+      let k = fault-at above (suc (length above)) f o (j .fault) in
       record {
         fault = here above fs f o (j .fault);
         first-line = λ p q. omega (arith, fault-below above (f ∷ fs) p q);
@@ -152,7 +151,7 @@ module _ (text : List ℕ) where
 
   pub fault-from : (o : Outcome) → Fault text o → 1 ≤ numberOf o
   fault-from o (too-long l) = omega arith
-  fault-from o (on-line above below f e x) = omega (arith, line-from above (suc (length above)) f o x)
+  fault-from o (on-line above below f e x) = omega (arith, fault-at above (suc (length above)) f o x)
   fault-from o (ends-early k e x) = omega arith
 
   -- what read answers is right
@@ -175,9 +174,9 @@ module _ (text : List ℕ) where
   read-answered : Answered (readJob text)
   unfolding readJob
   read-answered =
-      by-test (leb (length text) 64000)
-      (λ e. rw e (answered (readFrom 1 start (lines text)) (leb-true _ _ e) lines-right))
-      (λ e. rw e (long-answered (leb-false _ _ e)))
+      by-test (shortEnough text)
+      (λ e. rw e (answered (readFrom 1 start (lines text)) (short-is text .0 e) lines-right))
+      (λ e. rw e (long-answered (not-short text e)))
 
   -- a refused text has the fault that the answer names, none on a line before, and none of a smaller number on that line
   pub read-refused : (o : Outcome) → readJob text ≡ refused o → FirstFault text o
@@ -216,7 +215,7 @@ module _ (text : List ℕ) where
   -- length first: refusal 1 is for all texts above 64,000 bytes and for no other
   long-fault : (o : Outcome) → o ≡ TooLong → Fault text o → 64000 < length text
   long-fault o q (too-long h) = h
-  long-fault o q (on-line above below f e x) = absurd (omega (arith, ap lineOf q, fault-line above (suc (length above)) f o x))
+  long-fault o q (on-line above below f e x) = absurd (omega (arith, ap lineOf q, fault-at above (suc (length above)) f o x))
   long-fault o q (ends-early k e x) = absurd (omega (arith, ap lineOf q))
 
   pub long-refused : (readJob text ≡ refused TooLong) ↔ (64000 < length text)

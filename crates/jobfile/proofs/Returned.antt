@@ -5,12 +5,12 @@ use mathlib.Core.Path.{_≡_, refl, sym, ap}
 use mathlib.Core.List.{List}
 use native.Mathlib.Omega.{arith}
 use Rattle.board.specs.Accepted.{Accepted}
+use Rattle.board.specs.Stored.{jobOf}
 use Rattle.jobfile.specs.declared.Answer.{Answer}
 use Rattle.jobfile.specs.declared.Outcome.{Outcome}
 use Rattle.jobfile.specs.declared.Outcome.the-variants as Is
 use Rattle.jobfile.specs.Read.{Read, accepted, refused, readJob}
-use Rattle.jobfile.specs.Answers.{numberOf}
-use Rattle.jobfile.specs.Stored.{jobOf, answerOf}
+use Rattle.jobfile.specs.Answers.{numberOf, answerOf}
 use Rattle.jobfile.specs.Faults.{FirstFault}
 use Rattle.jobfile.proofs.Accepts.{read-accepted}
 use Rattle.jobfile.proofs.StoredJobs.{jobOf-storedOf}

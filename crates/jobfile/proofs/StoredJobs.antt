@@ -11,7 +11,7 @@ use Rattle.board.specs.declared.Block.{Block}
 use Rattle.board.specs.Job.{Job}
 use Rattle.board.specs.Accepted.{Accepted}
 use Rattle.jobfile.specs.Read.{withNet, withBlock}
-use Rattle.jobfile.specs.Stored.{jobOf, storedOf, noNet, noBlock}
+use Rattle.board.specs.Stored.{jobOf, storedOf, noNet, noBlock}
 
 -- the used slots hold the job
 pub jobOf-storedOf : (job : Job) → jobOf (storedOf job) ≡ job

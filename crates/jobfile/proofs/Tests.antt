@@ -1,45 +1,60 @@
 -- What each test of a line says: it passes exactly where the fact holds that it stands for. Assumes nothing.
 use Prim.Native.Nat.{ℕ, _≤_, _<_}
-use mathlib.Core.Path.{_≡_, refl, sym, _∙_}
+use mathlib.Core.Path.{_≡_, refl, sym, ap, _∙_}
 use mathlib.Core.Logic.{_↔_}
 use mathlib.Core.Bool.{Bool, true, false, not, _&&_, true≢false}
 use mathlib.Core.List.{List, [], _∷_, _++_}
 use native.Mathlib.Omega.{arith}
-use lib.Dec.{eqb, leb, ltb}
-use borrow.Author.Tests.{leb-true, le-leb, ltb-true, lt-ltb, eqb-false, ne-eqb, not-true}
+use lib.Dec.{eqb, leb}
+use lib.ListN.{length}
+use borrow.Author.Tests.{leb-true, leb-false, le-leb, ltb-true, lt-ltb, eqb-false, ne-eqb, not-true}
 use Rattle.lists.proofs.Cases.{and-split, and-both}
 use Rattle.board.specs.declared.Board.{Board}
 use Rattle.board.specs.declared.Net.{Net}
 use Rattle.board.specs.declared.Block.{Block}
 use Rattle.board.specs.declared.Shape.{Shape}
-use Rattle.board.specs.Length.{Allowed, lengthOf, shortest}
+use Rattle.board.specs.Length.{Allowed, shortest}
 use Rattle.board.specs.Accepted.{NetInRange, BlockInRange}
-use Rattle.jobfile.specs.Read.{within, netInRange, blockInRange, pinsFree, lastNumber}
-use Rattle.jobfile.proofs.Shortest.{shortest-long, shortest-least}
+use Rattle.board.proofs.ShortestShape.{shortest-long, shortest-least}
+use Rattle.jobfile.specs.Read.{within, rowsInRange, tracksInRange, netInRange, blockInRange, aboveLast, pinsFree, someLength, shortEnough}
 
 -- a test that fails denies what it stands for
 pub denied : {P : Type 0} (b : Bool) → ((b ≡ true) ↔ P) → b ≡ false → P → ⊥
 denied b t e p = true≢false (sym (t .1 p) ∙ e)
 
-pub leb-is : (a b : ℕ) → (leb a b ≡ true) ↔ (a ≤ b)
+leb-is : (a b : ℕ) → (leb a b ≡ true) ↔ (a ≤ b)
 leb-is a b = (leb-true a b, le-leb a b)
 
-pub ltb-is : (a b : ℕ) → (ltb a b ≡ true) ↔ (a < b)
-ltb-is a b = (ltb-true a b, lt-ltb a b)
-
 -- two tests of two facts
-pub and-is : {P Q : Type 0} (a b : Bool) → ((a ≡ true) ↔ P) → ((b ≡ true) ↔ Q) → ((a && b) ≡ true) ↔ (P × Q)
+and-is : {P Q : Type 0} (a b : Bool) → ((a ≡ true) ↔ P) → ((b ≡ true) ↔ Q) → ((a && b) ≡ true) ↔ (P × Q)
 and-is a b p q =
     (λ h. let s = and-split a b h in (p .0 (s .0), q .0 (s .1)), λ r. and-both a b (p .1 (r .0)) (q .1 (r .1)))
 
-pub within-is : (lo hi x : ℕ) → (within lo hi x ≡ true) ↔ ((lo ≤ x) × (x ≤ hi))
+within-is : (lo hi x : ℕ) → (within lo hi x ≡ true) ↔ ((lo ≤ x) × (x ≤ hi))
 unfolding within
 within-is lo hi x = and-is (leb lo x) (leb x hi) (leb-is lo x) (leb-is x hi)
 
-pub differ-is : (a b : ℕ) → (not (eqb a b) ≡ true) ↔ (a ≡ b → ⊥)
+differ-is : (a b : ℕ) → (not (eqb a b) ≡ true) ↔ (a ≡ b → ⊥)
 differ-is a b = (λ h. eqb-false a b (not-true (eqb a b) h), λ d. rw (ne-eqb a b d))
 
+-- refusal 1
+pub short-is : (text : List ℕ) → (shortEnough text ≡ true) ↔ (length text ≤ 64000)
+unfolding shortEnough
+short-is text = (λ h. omega (arith, leb-true), λ l. omega (arith, le-leb))
+
+pub not-short : (text : List ℕ) → shortEnough text ≡ false → 64000 < length text
+unfolding shortEnough
+not-short text e = omega (arith, leb-false)
+
 -- refusal 3
+pub rows-is : (h : ℕ) → (rowsInRange h ≡ true) ↔ ((1 ≤ h) × (h ≤ 1024))
+unfolding rowsInRange
+rows-is h = (λ e. omega (arith, within-is _ _ h .0 e), λ r. within-is _ _ h .1 (omega arith))
+
+pub tracks-is : (k : ℕ) → (tracksInRange k ≡ true) ↔ ((1 ≤ k) × (k ≤ 128))
+unfolding tracksInRange
+tracks-is k = (λ e. omega (arith, within-is _ _ k .0 e), λ r. within-is _ _ k .1 (omega arith))
+
 pub net-range-is : (board : Board) (n : Net) → (netInRange board n ≡ true) ↔ NetInRange board n
 unfolding netInRange
 net-range-is board n =
@@ -76,25 +91,30 @@ block-range-is board b =
       λ r. t .1 (((r .track-range, (r .first-range, omega arith)), (omega arith, r .last-range)), r .in-order),
     )
 
--- refusal 5: the number of the last net
-pub last-number : (k : ℕ) (ms : List Net) (m : Net) → lastNumber k (ms ++ (m ∷ [])) ≡ m .number
-unfolding lastNumber
-last-number k [] m = refl
-last-number k (x ∷ ms) m = last-number (x .number) ms m
+-- refusal 5
+pub above-is : (before : List Net) (m : Net) (i : ℕ) → (aboveLast (before ++ (m ∷ [])) i ≡ true) ↔ (m .number < i)
+unfolding aboveLast
+above-is [] m i = (λ h. omega (arith, ltb-true), λ l. omega (arith, lt-ltb))
+above-is (x ∷ []) m i = (λ h. omega (arith, ltb-true), λ l. omega (arith, lt-ltb))
+above-is (x ∷ y ∷ ys) m i = above-is (y ∷ ys) m i
 
 -- the last net of a list that has one
-pub record LastNet (k : ℕ) (ns : List Net) : Type 0 where
+pub record LastNet (ns : List Net) : Type 0 where
   pub before : List Net
   pub last : Net
   pub is-last : ns ≡ before ++ (last ∷ [])
-  pub has-number : lastNumber k ns ≡ last .number
 
-pub last-net : (k : ℕ) (n : Net) (ns : List Net) → LastNet k (n ∷ ns)
-unfolding lastNumber
-last-net k n [] = record { before = []; last = n; is-last = refl; has-number = refl }
-last-net k n (m ∷ ns) =
-    let r = last-net (n .number) m ns in
-    record { before = n ∷ r .before; last = r .last; is-last = rw (r .is-last); has-number = r .has-number }
+last-net : (n : Net) (ns : List Net) → LastNet (n ∷ ns)
+last-net n [] = record { before = []; last = n; is-last = refl }
+last-net n (m ∷ ns) =
+    let r = last-net m ns in
+    record { before = n ∷ r .before; last = r .last; is-last = ap (λ xs. n ∷ xs) (r .is-last) }
+
+-- a number that is not above has a net before it
+pub not-above-last : (ns : List Net) (i : ℕ) → aboveLast ns i ≡ false → LastNet ns
+unfolding aboveLast
+not-above-last [] i e = absurd (true≢false e)
+not-above-last (n ∷ ns) i e = last-net n ns
 
 -- refusal 6
 pub free-is : (n m : Net) → (pinsFree n m ≡ true) ↔ ((m .left .0 ≡ n .left .0 → ⊥) × (m .right .0 ≡ n .right .0 → ⊥))
@@ -103,11 +123,14 @@ free-is n m =
     and-is (not (eqb (m .left .0) (n .left .0))) (not (eqb (m .right .0) (n .right .0)))
     (differ-is (m .left .0) (n .left .0)) (differ-is (m .right .0) (n .right .0))
 
--- refusal 8: some length is allowed
-pub length-is : (board : Board) (n : Net) →
-    (leb (lengthOf board n (shortest board n)) (n .max) ≡ true) ↔ ((s : Shape) × Allowed board n s)
+-- refusal 7
+pub ends-is : (n : Net) → (not (eqb (n .left .0) (n .right .0)) ≡ true) ↔ (n .left .0 ≡ n .right .0 → ⊥)
+ends-is n = differ-is (n .left .0) (n .right .0)
+
+-- refusal 8
+pub length-is : (board : Board) (n : Net) → (someLength board n ≡ true) ↔ ((s : Shape) × Allowed board n s)
+unfolding someLength
 length-is board n = (
-  λ h. (shortest board n, record { long = shortest-long board n; short = leb-true _ _ h }),
-  λ r. let l = shortest-least board n (r .0) (r .1) in
-      le-leb (lengthOf board n (shortest board n)) (n .max) (omega (arith, r .1 .short)),
+  λ h. (shortest board n, record { long = shortest-long board n; short = omega (arith, leb-true) }),
+  λ r. let l = shortest-least board n (r .0) (r .1) in omega (arith, le-leb, r .1 .short),
 )

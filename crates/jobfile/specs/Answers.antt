@@ -1,7 +1,12 @@
--- Document 01, "Operations", read: the number and the line of each outcome. Only this definition gives the document's numbers.
+-- Document 01, "Operations", read: the number and the line of each outcome, and what read returns. Only this definition gives the
+-- document's numbers.
 use Prim.Native.Nat.{ℕ}
+use Rattle.board.specs.Job.{Job}
+use Rattle.board.specs.Stored.{storedOf}
+use Rattle.jobfile.specs.declared.Answer.{Answer}
 use Rattle.jobfile.specs.declared.Outcome.{Outcome}
 use Rattle.jobfile.specs.declared.Outcome.the-variants.{Accepted, TooLong, NotOfForm, OutOfRange, TooMany, NumberNotAbove, PinUsed, SameRow, NoLength, TooFewRows}
+use Rattle.jobfile.specs.Read.{boardOf, emptyBoard, Read, accepted, refused}
 
 -- the number of a refusal; 0 where nothing is refused
 abbrev pub numberOf : Outcome → ℕ
@@ -28,3 +33,12 @@ lineOf (PinUsed k) = k
 lineOf (SameRow k) = k
 lineOf (NoLength k) = k
 lineOf (TooFewRows k) = k
+
+-- the job of a refusal: no rows, no tracks, every slot unused
+abbrev pub noJob : Job
+noJob = emptyBoard (boardOf 0 0)
+
+-- what read returns: an accepted job by value, the empty job beside a refusal
+unfoldable pub answerOf : Read → Answer
+answerOf (accepted job) = record { outcome = Accepted; job = storedOf job }
+answerOf (refused o) = record { outcome = o; job = storedOf noJob }

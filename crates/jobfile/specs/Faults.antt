@@ -18,8 +18,7 @@ use Rattle.jobfile.specs.declared.Outcome.{Outcome}
 use Rattle.jobfile.specs.declared.Outcome.the-variants.{TooLong, NotOfForm, OutOfRange, TooMany, NumberNotAbove, PinUsed, SameRow, NoLength, TooFewRows}
 use Rattle.jobfile.specs.Forms.{readForm}
 use Rattle.jobfile.specs.Read.{netOf, blockOf, boardOf, withNet, withBlock}
-use Rattle.jobfile.specs.Answers.{numberOf, lineOf}
-use Rattle.jobfile.specs.Stored.{noJob}
+use Rattle.jobfile.specs.Answers.{numberOf, lineOf, noJob}
 
 -- the forms of the lines of a text
 abbrev pub formsOf : List ℕ → List Form

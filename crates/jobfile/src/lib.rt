@@ -1,7 +1,5 @@
 // Reading a job: each line of a text is a form, and the text becomes a job by value or a refusal that names its line.
-use board::Block;
-use board::Board;
-use board::Net;
+use board::StoredJob;
 
 // What a line of a job is: blank, one of the five forms with its numbers in the order of the line, the closing bracket, or none of these.
 pub enum Form {
@@ -36,16 +34,6 @@ pub enum Outcome {
     NoLength(usize),
     // the needed rows are more than the board has
     TooFewRows(usize),
-}
-
-// A job by value: the first `nnets` of its nets and the first `nblocks` of its blocks are used, and every other slot holds the same
-// empty record.
-pub struct StoredJob {
-    pub board: Board,
-    pub nnets: usize,
-    pub nblocks: usize,
-    pub nets: [Net; 512],
-    pub blocks: [Block; 256],
 }
 
 // What read returns: the outcome, and the job where it is accepted, the empty job where it is refused.

@@ -1,20 +1,22 @@
 -- What small texts are read as, those of the readings of document 01 among them, and its worked board. Assumes nothing.
-use Prim.Native.Nat.{ℕ}
+use Prim.Native.Nat.{ℕ, zero, suc, _+_, _≤_}
 use Prim.Native.Char.{code}
 use Prim.Native.String as S
-use mathlib.Core.Path.{_≡_, refl}
+use mathlib.Core.Path.{_≡_, refl, ap, _∙_}
 use mathlib.Core.List.{List, [], _∷_}
-use lib.ListN.{replicate}
+use native.Mathlib.Omega.{arith}
+use lib.ListN.{replicate, length-replicate}
 use Rattle.lists.specs.Lists.{allOf}
 use Rattle.board.specs.Job.{Job}
 use Rattle.board.specs.Length.{width, upper, lower, span, plainLength, shortest, needed}
-use Rattle.text.specs.Bytes.{same, joined, pieces, nonEmpty}
+use Rattle.text.specs.Bytes.{lines, same, joined, pieces, nonEmpty}
 use Rattle.text.specs.Digits.{valueFrom, number}
 use Rattle.keywords.specs.Keywords.{findFrom, findWord}
 use Rattle.lines.specs.Tokens.{spaced, lineWords}
-use Rattle.jobfile.specs.declared.Outcome.the-variants.{TooLong, NotOfForm, OutOfRange, TooMany, NumberNotAbove, PinUsed, SameRow, NoLength, TooFewRows}
+use Rattle.jobfile.specs.declared.Outcome.the-variants.{NotOfForm, OutOfRange, TooMany, NumberNotAbove, PinUsed, SameRow, NoLength, TooFewRows}
 use Rattle.jobfile.specs.Forms.{noWord, ifLast, consNumber, arguments, formFrom, formAfter, formOpened, formOf, readForm}
-use Rattle.jobfile.specs.Read.{stop, tested, atStart, atOpened, atSized, atFilled, within, netOf, blockOf, boardOf, emptyBoard, rowsInRange, tracksInRange, netInRange, blockInRange, aboveLast, pinsFree, someLength, netTests, blockTests, addNet, addBlock, step, Read, accepted, refused, ended, follow, readFrom, shortEnough, readJob}
+use Rattle.jobfile.specs.Read.{start, stop, tested, atStart, atOpened, atSized, atFilled, within, netOf, blockOf, boardOf, emptyBoard, rowsInRange, tracksInRange, netInRange, blockInRange, aboveLast, pinsFree, someLength, netTests, blockTests, addNet, addBlock, step, Read, accepted, refused, ended, follow, readFrom, shortEnough, readJob}
+use Rattle.jobfile.proofs.Tests.{short-is}
 
 -- the bytes of a text of ASCII characters
 abbrev bytes : S.String → List ℕ
@@ -133,13 +135,20 @@ worked-board :
 unfolding readAs
 worked-board = refl
 
--- 64,000 bytes are still read, one more is too long; 64,000 empty lines end early at line 64,001
-length-first :
-    (readJob (replicate 64000 32) ≡ refused (NotOfForm 2)) ×
-    (readJob (replicate 64001 32) ≡ refused TooLong) ×
-    (readJob (replicate 64000 10) ≡ refused (NotOfForm 64001))
+-- n empty lines end early at line n + 1, so 64,000 of them at line 64,001
+empty-from : (n k : ℕ) → readFrom k start (lines (replicate n 10)) ≡ refused (NotOfForm (k + n))
 unfolding readAs
-length-first = (refl, refl, refl)
+empty-from zero k = let e : k ≡ k + 0 = omega arith in ap (λ i. refused (NotOfForm i)) e
+empty-from (suc n) k =
+    let e : suc k + n ≡ k + suc n = omega arith in
+    empty-from n (suc k) ∙ ap (λ i. refused (NotOfForm i)) e
+
+empty-lines : (n : ℕ) → n ≤ 64000 → readJob (replicate n 10) ≡ refused (NotOfForm (suc n))
+unfolding readJob
+empty-lines n h =
+    let l = length-replicate {A = ℕ} n 10 in
+    let e : 1 + n ≡ suc n = omega arith in
+    rw (short-is (replicate n 10) .1 (omega arith)) (empty-from n 1 ∙ ap (λ i. refused (NotOfForm i)) e)
 
 -- a 513th net counts as one too many before its number is looked at, and its ranges count before that; the same of a 257th block
 abbrev full : Job

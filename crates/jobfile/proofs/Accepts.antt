@@ -2,20 +2,19 @@
 use Prim.Native.Nat.{ℕ, _≤_, _<_}
 use mathlib.Core.Path.{_≡_, refl}
 use mathlib.Core.Logic.{⊎-elim}
-use mathlib.Core.Bool.{true, not}
+use mathlib.Core.Bool.{Bool, true, false, not}
 use mathlib.Core.List.{List, [], _∷_, List·Memᴰ·not-nil, List·Memᴰ·eq-of-singleton, List·Memᴰ·append-cases}
 use native.Mathlib.Omega.{arith}
 use lib.Dec.{eqb, leb, ltb}
 use lib.ListN.{length, length-append}
 use borrow.Author.Tests.{leb-true, ltb-true}
 use Rattle.lists.specs.Lists.{Each, EachPair, allOf}
-use Rattle.lists.proofs.Cases.{by-test}
 use Rattle.lists.proofs.Laws.{Each-map, Each-of}
 use Rattle.board.specs.declared.Board.{Board}
 use Rattle.board.specs.declared.Net.{Net}
 use Rattle.board.specs.declared.Block.{Block}
 use Rattle.board.specs.Job.{Job}
-use Rattle.board.specs.Length.{needed}
+use Rattle.board.specs.Length.{lengthOf, shortest, needed}
 use Rattle.board.specs.Accepted.{Accepted, AcceptedNet}
 use Rattle.text.specs.Bytes.{lines}
 use Rattle.jobfile.specs.declared.Form.{Form}
@@ -23,9 +22,9 @@ use Rattle.jobfile.specs.declared.Form.the-variants as Is
 use Rattle.jobfile.specs.declared.Outcome.{Outcome}
 use Rattle.jobfile.specs.declared.Outcome.the-variants.{TooLong, NotOfForm}
 use Rattle.jobfile.specs.Forms.{readForm}
-use Rattle.jobfile.specs.Read.{State, start, opened, sized, filled, closed, Next, go, stop, Test, tested, atStart, atOpened, atSized, atFilled, netOf, blockOf, boardOf, emptyBoard, withNet, withBlock, netInRange, blockInRange, aboveLast, pinsFree, someLength, netTests, blockTests, addNet, addBlock, step, Read, accepted, refused, ended, follow, readFrom, shortEnough, readJob}
-use Rattle.jobfile.proofs.Joins.{EachPair-join}
-use Rattle.jobfile.proofs.Tests.{rows-is, tracks-is, net-range-is, block-range-is, free-is, ends-is, length-is}
+use Rattle.jobfile.specs.Read.{State, start, opened, sized, filled, closed, Next, go, stop, unless, atStart, atOpened, atSized, atFilled, netOf, blockOf, boardOf, emptyBoard, withNet, withBlock, netInRange, blockInRange, lastNumber, pinsFree, addNet, addBlock, step, Read, accepted, refused, ended, follow, readFrom, readJob}
+use Rattle.jobfile.proofs.Joins.{Each-every, EachPair-join}
+use Rattle.jobfile.proofs.Tests.{read-cases, within-is, differ-is, net-range-is, block-range-is, free-is, length-is}
 
 -- what has been read is accepted
 abbrev Good : State → Type 0
@@ -45,56 +44,38 @@ stop-gives o s e = absurd (let z : _≡_ {A = ℕ} 0 1 = cc in omega arith)
 go-gives : (s : State) → Good s → Gives (go s)
 go-gives s g t e = let q : s ≡ t = cc in rw q at g
 
--- all the tests have passed
-abbrev Passed : List Test → Type 0
-Passed ts = Each (λ t. t .passed ≡ true) ts
-
-tested-gives : (ts : List Test) (x : Next) → (Passed ts → Gives x) → Gives (tested ts x)
-unfolding tested
-tested-gives [] x f = f tt
-tested-gives (t ∷ ts) x f =
-    let rest = tested-gives ts x in
-    by-test (t .passed) (λ e. rw e (rest (λ p. f (e, p)))) (λ e. rw e (stop-gives (t .otherwise)))
+unless-gives : (b : Bool) (o : Outcome) (x : Next) → (b ≡ true → Gives x) → Gives (unless b o x)
+unfolding unless
+unless-gives true o x f = f refl
+unless-gives false o x f = stop-gives o
 
 -- ---- a net or a block more
 
--- a number above the last of rising ones is above all
-above-all : (ns : List Net) (i : ℕ) → EachPair (λ a b. a .number < b .number) ns → aboveLast ns i ≡ true →
-    Each (λ n. n .number < i) ns
-unfolding aboveLast
-above-all [] i r h = tt
-above-all (n ∷ []) i r h = (omega (arith, ltb-true), tt)
-above-all (n ∷ m ∷ ns) i r h = let a = above-all (m ∷ ns) i (r .1) h in (omega (arith, r .0 .0, a .0), a)
+-- the last number of rising ones is the largest
+last-most : (k : ℕ) (ns : List Net) → EachPair (λ a b. a .number < b .number) ns → Each (λ n. k ≤ n .number) ns →
+    (k ≤ lastNumber k ns) × Each (λ n. n .number ≤ lastNumber k ns) ns
+unfolding lastNumber
+last-most k [] r a = (omega arith, tt)
+last-most k (n ∷ ns) r a =
+    let h = last-most (n .number) ns (r .1) (Each-map ns (λ m l. omega (arith, l)) (r .0)) in
+    (omega (arith, h .0, a .0), (h .0, h .1))
 
 module _ (k : ℕ) (job : Job) (n : Net) (a : Accepted job) where
   record Facts : Type 0 where
     ranges : netInRange (job .board) n ≡ true
     few : ltb (length (job .nets)) 512 ≡ true
-    above : aboveLast (job .nets) (n .number) ≡ true
+    above : ltb (lastNumber 0 (job .nets)) (n .number) ≡ true
     free : allOf (pinsFree n) (job .nets) ≡ true
     differ : not (eqb (n .left .0) (n .right .0)) ≡ true
-    allowed : someLength (job .board) n ≡ true
+    allowed : leb (lengthOf (job .board) n (shortest (job .board) n)) (n .max) ≡ true
     fits : leb (needed (job .board) n) (job .board .rows) ≡ true
-
-  facts : Passed (netTests k n job) → Facts
-  unfolding netTests
-  facts p =
-      record {
-        ranges = search;
-        few = search;
-        above = search;
-        free = search;
-        differ = search;
-        allowed = search;
-        fits = search;
-      }
 
   new-net : Facts → AcceptedNet (job .board) n
   new-net t =
       let s = length-is (job .board) n .0 (t .allowed) in
       record {
         in-range = net-range-is (job .board) n .0 (t .ranges);
-        ends-differ = ends-is n .0 (t .differ);
+        ends-differ = differ-is (n .left .0) (n .right .0) .0 (t .differ);
         some-shape = s .0;
         some-length = s .1;
         fits-board = leb-true _ _ (t .fits);
@@ -102,7 +83,8 @@ module _ (k : ℕ) (job : Job) (n : Net) (a : Accepted job) where
 
   net-accepted : Facts → Accepted (withNet job n)
   net-accepted t =
-      let less = above-all (job .nets) (n .number) (a .numbers-rise) (t .above) in
+      let m = last-most 0 (job .nets) (a .numbers-rise) (Each-every (job .nets) (λ x i. omega arith)) in
+      let l = ltb-true (lastNumber 0 (job .nets)) (n .number) (t .above) in
       let pins = Each-of (pinsFree n) (job .nets) (λ m h. free-is n m .0 h) (t .free) in
       record {
         board-range = a .board-range;
@@ -114,7 +96,7 @@ module _ (k : ℕ) (job : Job) (n : Net) (a : Accepted job) where
             (List·Memᴰ·append-cases (job .nets) i);
         blocks-each = a .blocks-each;
         numbers-rise = EachPair-join (λ x y. x .number < y .number) (job .nets) (n ∷ []) (a .numbers-rise) (tt, tt)
-            (Each-map (job .nets) (λ m p. (p, tt)) less);
+            (Each-map (job .nets) (λ x y. (omega (arith, y, l), tt)) (m .1));
         lefts-differ = EachPair-join (λ x y. x .left .0 ≡ y .left .0 → ⊥) (job .nets) (n ∷ []) (a .lefts-differ) (tt, tt)
             (Each-map (job .nets) (λ m p. (p .0, tt)) pins);
         rights-differ = EachPair-join (λ x y. x .right .0 ≡ y .right .0 → ⊥) (job .nets) (n ∷ []) (a .rights-differ) (tt, tt)
@@ -123,7 +105,24 @@ module _ (k : ℕ) (job : Job) (n : Net) (a : Accepted job) where
 
   net-gives : Gives (addNet k n job)
   unfolding addNet
-  net-gives = tested-gives (netTests k n job) _ (λ p. go-gives (filled (withNet job n)) (net-accepted (facts p)))
+  net-gives =
+      unless-gives _ _ _ (λ e3.
+      unless-gives _ _ _ (λ e4.
+      unless-gives _ _ _ (λ e5.
+      unless-gives _ _ _ (λ e6.
+      unless-gives _ _ _ (λ e7.
+      unless-gives _ _ _ (λ e8.
+      unless-gives _ _ _ (λ e9.
+      go-gives (filled (withNet job n))
+      (net-accepted (record {
+        ranges = search;
+        few = search;
+        above = search;
+        free = search;
+        differ = search;
+        allowed = search;
+        fits = search;
+      })))))))))
 
 module _ (k : ℕ) (job : Job) (b : Block) (a : Accepted job) where
   block-accepted : blockInRange (job .board) b ≡ true → ltb (length (job .blocks)) 256 ≡ true → Accepted (withBlock job b)
@@ -143,9 +142,9 @@ module _ (k : ℕ) (job : Job) (b : Block) (a : Accepted job) where
       }
 
   block-gives : Gives (addBlock k b job)
-  unfolding addBlock blockTests
+  unfolding addBlock
   block-gives =
-      tested-gives (blockTests k b job) _ (λ p. go-gives (filled (withBlock job b)) (block-accepted (search) (search)))
+      unless-gives _ _ _ (λ e3. unless-gives _ _ _ (λ e4. go-gives (filled (withBlock job b)) (block-accepted (search) (search))))
 
 empty-accepted : (h k : ℕ) → (1 ≤ h) × (h ≤ 1024) → (1 ≤ k) × (k ≤ 128) → Accepted (emptyBoard (boardOf h k))
 empty-accepted h k a b =
@@ -198,10 +197,12 @@ step-gives : (k : ℕ) (s : State) (x : Form) → Good s → Gives (step k s x)
 unfolding step
 step-gives k s Is.Blank g = go-gives s g
 step-gives k s Is.Board g = start-gives k s (go opened) (go-gives opened tt)
-step-gives k s (Is.Rows h) g = opened-gives k s _ (tested-gives _ _ (λ p. go-gives (sized h) (rows-is h .0 (p .0))))
+step-gives k s (Is.Rows h) g =
+    opened-gives k s _ (unless-gives _ _ _ (λ e. go-gives (sized h) (omega (arith, within-is _ _ h .0 e))))
 step-gives k s (Is.Tracks t) g =
-    sized-gives k s _ g (λ h r. tested-gives _ _ (λ p.
-    go-gives (filled (emptyBoard (boardOf h t))) (empty-accepted h t r (tracks-is t .0 (p .0)))))
+    sized-gives k s _ g (λ h r.
+    unless-gives _ _ _ (λ e.
+    go-gives (filled (emptyBoard (boardOf h t))) (empty-accepted h t r (omega (arith, within-is _ _ t .0 e)))))
 step-gives k s (Is.Net i l r lo hi) g = filled-gives k s _ g (λ j a. net-gives k j (netOf i l r lo hi) a)
 step-gives k s (Is.Block t a b) g = filled-gives k s _ g (λ j c. block-gives k j (blockOf t a b) c)
 step-gives k s Is.Close g = filled-gives k s _ g (λ j a. go-gives (closed j) a)
@@ -234,8 +235,7 @@ from-accepted k s (l ∷ ls) j g e =
     (λ t h. from-accepted _ t ls j (step-gives k s (readForm l) g t h)) e
 
 pub read-accepted : (text : List ℕ) (job : Job) → readJob text ≡ accepted job → Accepted job
-unfolding readJob
-read-accepted text job e =
-    by-test (shortEnough text)
-    (λ h. from-accepted 1 start (lines text) job tt (rw h at e))
-    (λ h. not-refused TooLong job (rw h at e))
+read-accepted text job =
+    read-cases text (λ r. r ≡ accepted job → Accepted job)
+    (λ h. from-accepted 1 start (lines text) job tt)
+    (λ h. not-refused TooLong job)

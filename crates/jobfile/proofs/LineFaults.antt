@@ -1,11 +1,11 @@
 -- A line is refused for that of its faults which has the smallest number, and goes through where it has none. Assumes nothing.
 use Prim.Native.Nat.{ℕ, _≤_, _<_}
-use mathlib.Core.Path.{_≡_, refl, sym, ap, subst, _∙_}
+use mathlib.Core.Path.{_≡_, refl, ap, subst, _∙_}
 use mathlib.Core.Logic.{⊎-elim}
-use mathlib.Core.Bool.{true, false}
+use mathlib.Core.Bool.{Bool, true, false, not}
 use mathlib.Core.List.{List, [], _∷_, _++_, map, List·Memᴰ, List·Memᴰ·head, List·Memᴰ·tail, List·Memᴰ·not-nil, List·Memᴰ·cases-cons, append-nil}
 use native.Mathlib.Omega.{arith}
-use lib.Dec.{eqb, ltb}
+use lib.Dec.{eqb, leb, ltb}
 use lib.ListN.{length}
 use borrow.Author.Tests.{leb-true, leb-false, ltb-true, ltb-false, eqb-true, eqb-false, not-false}
 use Rattle.lists.specs.Lists.{Each, EachPair, allOf}
@@ -15,17 +15,17 @@ use Rattle.board.specs.declared.Net.{Net}
 use Rattle.board.specs.declared.Block.{Block}
 use Rattle.board.specs.declared.Shape.{Shape}
 use Rattle.board.specs.Job.{Job}
-use Rattle.board.specs.Length.{Allowed, needed}
+use Rattle.board.specs.Length.{Allowed, lengthOf, shortest, needed}
 use Rattle.board.specs.Accepted.{NetInRange, BlockInRange}
 use Rattle.jobfile.specs.declared.Form.{Form}
 use Rattle.jobfile.specs.declared.Form.the-variants as Is
 use Rattle.jobfile.specs.declared.Outcome.{Outcome}
 use Rattle.jobfile.specs.declared.Outcome.the-variants.{NotOfForm, OutOfRange, TooMany, NumberNotAbove, PinUsed, SameRow, NoLength, TooFewRows}
-use Rattle.jobfile.specs.Read.{State, start, opened, sized, filled, closed, Next, go, stop, Test, test, tested, atStart, atOpened, atSized, atFilled, rowsInRange, tracksInRange, netOf, blockOf, boardOf, emptyBoard, withNet, withBlock, aboveLast, pinsFree, netTests, blockTests, addNet, addBlock, step}
+use Rattle.jobfile.specs.Read.{State, start, opened, sized, filled, closed, Next, go, stop, unless, atStart, atOpened, atSized, atFilled, within, netOf, blockOf, boardOf, emptyBoard, withNet, withBlock, netInRange, blockInRange, lastNumber, pinsFree, addNet, addBlock, step}
 use Rattle.jobfile.specs.Answers.{numberOf, lineOf, noJob}
 use Rattle.jobfile.specs.Faults.{withForm, jobFrom, jobIn, isBlank, nonBlank, Item, net, block, Ordered, MayFollow, NetFault, net-range, net-count, not-above, left-used, right-used, same-row, no-length, too-few-rows, BlockFault, block-range, block-count, LineFault, not-of-form, rows-range, tracks-range, of-net, of-block}
 use Rattle.jobfile.proofs.Joins.{Each-join, Each-right, allOf-false}
-use Rattle.jobfile.proofs.Tests.{denied, rows-is, tracks-is, net-range-is, block-range-is, above-is, not-above-last, free-is, ends-is, length-is}
+use Rattle.jobfile.proofs.Tests.{denied, within-is, differ-is, net-range-is, block-range-is, last-number, last-net, free-is, length-is}
 
 -- ---- tests in the order of their numbers
 
@@ -44,6 +44,19 @@ judged-same : (F H : Outcome → Type 0) (G : State → Type 0) (x : Next) → (
 judged-same F H G (go s) f h j = (j .0, λ o p. j .1 o (h o p))
 judged-same F H G (stop o) f h j = record { fault = f o (j .fault); least = λ p q. j .least p (h p q) }
 
+-- a test of a line, and what the text is refused for where it fails
+record Test : Type 0 where
+  passed : Bool
+  otherwise : Outcome
+
+abbrev test : Bool → Outcome → Test
+test passed o = record { passed = passed; otherwise = o }
+
+-- one test after another
+abbrev tested : List Test → Next → Next
+tested [] x = x
+tested (t ∷ ts) x = unless (t .passed) (t .otherwise) (tested ts x)
+
 -- the tests stand in the order of the document's numbers
 abbrev Rising : List Test → Type 0
 Rising ts = EachPair (λ s t. numberOf (s .otherwise) < numberOf (t .otherwise)) ts
@@ -52,6 +65,11 @@ Rising ts = EachPair (λ s t. numberOf (s .otherwise) < numberOf (t .otherwise))
 record Stands (F : Outcome → Type 0) (t : Test) : Type 0 where
   fails : t .passed ≡ false → F (t .otherwise)
   passes : t .passed ≡ true → F (t .otherwise) → ⊥
+
+-- so does each, where those before it have passed
+abbrev Standing : (Outcome → Type 0) → List Test → Type 0
+Standing F [] = Unit {0}
+Standing F (t ∷ ts) = Stands F t × (t .passed ≡ true → Standing F ts)
 
 -- what the tests stand for
 abbrev outcomes : List Test → List Outcome
@@ -69,14 +87,14 @@ later-number t (u ∷ ts) p a m =
 
 module _ (F : Outcome → Type 0) (G : State → Type 0) (s : State) (good : G s) where
   -- tests that rise and stand for all the faults of a line
-  tested-judged : (ts : List Test) → Rising ts → Each (Stands F) ts → ((o : Outcome) → F o → List·Memᴰ o (outcomes ts)) →
+  tested-judged : (ts : List Test) → Rising ts → Standing F ts → ((o : Outcome) → F o → List·Memᴰ o (outcomes ts)) →
       Judged F G (tested ts (go s))
-  unfolding tested
+  unfolding unless
   tested-judged [] r a c = (good, λ o f. List·Memᴰ·not-nil (c o f))
   tested-judged (t ∷ ts) r a c =
-      let rest = tested-judged ts (r .1) (a .1) in
+      let rest = tested-judged ts (r .1) in
       by-test (t .passed)
-      (λ e. rw e (rest (λ o f. ⊎-elim
+      (λ e. rw e (rest (a .1 e) (λ o f. ⊎-elim
       (λ (q : o ≡ t .otherwise). absurd (a .0 .passes e (rw q at f)))
       (λ m. m)
       (List·Memᴰ·cases-cons (c o f)))))
@@ -107,18 +125,18 @@ module _ (job : Job) (n : Net) (k : ℕ) where
   count-of : NetFault job n k (TooMany k) → 512 ≤ length (job .nets)
   count-of (net-count x) = x
 
-  no-above : aboveLast (job .nets) (n .number) ≡ true → NetFault job n k (NumberNotAbove k) → ⊥
+  no-above : ltb (lastNumber 0 (job .nets)) (n .number) ≡ true → NetFault job n k (NumberNotAbove k) → ⊥
   no-above e (not-above ms m q h) =
-      let l : m .number < n .number = above-is ms m (n .number) .0 (sym (ap (λ ns. aboveLast ns (n .number)) q) ∙ e) in
-      omega arith
+      let l : lastNumber 0 (job .nets) ≡ m .number = ap (lastNumber 0) q ∙ last-number 0 ms m in
+      omega (arith, ltb-true)
 
-  some-above : aboveLast (job .nets) (n .number) ≡ false → NetFault job n k (NumberNotAbove k)
-  some-above e =
-      let l = not-above-last (job .nets) (n .number) e in
-      let d = sym (ap (λ ns. aboveLast ns (n .number)) (l .is-last)) ∙ e in
-      by-test (ltb (l .last .number) (n .number))
-      (λ t. absurd (denied _ (above-is (l .before) (l .last) (n .number)) d (ltb-true _ _ t)))
-      (λ t. not-above (l .before) (l .last) (l .is-last) (ltb-false _ _ t))
+  some-above : (ns : List Net) → job .nets ≡ ns → 1 ≤ n .number → n .number ≤ lastNumber 0 ns →
+      NetFault job n k (NumberNotAbove k)
+  unfolding lastNumber
+  some-above [] q a h = absurd (omega arith)
+  some-above (m ∷ ns) q a h =
+      let l = last-net 0 m ns in
+      not-above (l .before) (l .last) (q ∙ l .is-last) (omega (arith, l .has-number))
 
   no-used : allOf (pinsFree n) (job .nets) ≡ true → NetFault job n k (PinUsed k) → ⊥
   no-used e (left-used m i q) = free-is n m .0 (allOf-at (pinsFree n) (job .nets) m e i) .0 q
@@ -144,33 +162,53 @@ module _ (job : Job) (n : Net) (k : ℕ) where
   rows-of : NetFault job n k (TooFewRows k) → job .board .rows < needed (job .board) n
   rows-of (too-few-rows x) = x
 
-  net-rising : Rising (netTests k n job)
-  unfolding netTests
+  -- refusals 3 to 9, in this order
+  abbrev netTests : List Test
+  netTests =
+      test (netInRange (job .board) n) (OutOfRange k) ∷
+      test (ltb (length (job .nets)) 512) (TooMany k) ∷
+      test (ltb (lastNumber 0 (job .nets)) (n .number)) (NumberNotAbove k) ∷
+      test (allOf (pinsFree n) (job .nets)) (PinUsed k) ∷
+      test (not (eqb (n .left .0) (n .right .0))) (SameRow k) ∷
+      test (leb (lengthOf (job .board) n (shortest (job .board) n)) (n .max)) (NoLength k) ∷
+      test (leb (needed (job .board) n) (job .board .rows)) (TooFewRows k) ∷
+      []
+
+  net-tested : addNet k n job ≡ tested netTests (go (filled (withNet job n)))
+  unfolding addNet
+  net-tested = refl
+
+  net-rising : Rising netTests
   net-rising = omega arith
 
-  net-stands : Each (Stands (NetFault job n k)) (netTests k n job)
-  unfolding netTests
+  net-stands : Standing (NetFault job n k) netTests
   net-stands = (
     record {
       fails = λ e. net-range (denied _ (net-range-is (job .board) n) e);
       passes = λ e f. range-of f (net-range-is (job .board) n .0 e);
     },
-    (
+    λ e3. (
       record { fails = λ e. net-count (omega (arith, ltb-false)); passes = λ e f. omega (arith, ltb-true, count-of f) },
-      (
-        record { fails = some-above; passes = no-above },
-        (
+      λ e4. (
+        record {
+          fails = λ e. some-above (job .nets) refl (net-range-is (job .board) n .0 e3 .number-range .0) (ltb-false _ _ e);
+          passes = no-above;
+        },
+        λ e5. (
           record { fails = some-used; passes = no-used },
-          (
-            record { fails = λ e. same-row (eqb-true _ _ (not-false _ e)); passes = λ e f. ends-is n .0 e (row-of f) },
-            (
+          λ e6. (
+            record {
+              fails = λ e. same-row (eqb-true _ _ (not-false _ e));
+              passes = λ e f. differ-is (n .left .0) (n .right .0) .0 e (row-of f);
+            },
+            λ e7. (
               record {
                 fails = λ e. no-length (λ s a. denied _ (length-is (job .board) n) e (s, a));
                 passes = λ e f. let s = length-is (job .board) n .0 e in length-of f (s .0) (s .1);
               },
-              (
+              λ e8. (
                 record { fails = λ e. too-few-rows (omega (arith, leb-false)); passes = λ e f. omega (arith, leb-true, rows-of f) },
-                tt,
+                λ e9. tt,
               ),
             ),
           ),
@@ -179,8 +217,7 @@ module _ (job : Job) (n : Net) (k : ℕ) where
     ),
   )
 
-  net-covered : (o : Outcome) → NetFault job n k o → List·Memᴰ o (outcomes (netTests k n job))
-  unfolding netTests
+  net-covered : (o : Outcome) → NetFault job n k o → List·Memᴰ o (outcomes netTests)
   net-covered o (net-range x) = List·Memᴰ·head refl
   net-covered o (net-count x) = search (List·Memᴰ·head, List·Memᴰ·tail) depth 9
   net-covered o (not-above ms m e h) = search (List·Memᴰ·head, List·Memᴰ·tail) depth 9
@@ -191,9 +228,8 @@ module _ (job : Job) (n : Net) (k : ℕ) where
   net-covered o (too-few-rows x) = search (List·Memᴰ·head, List·Memᴰ·tail) depth 9
 
   net-judged : (G : State → Type 0) → G (filled (withNet job n)) → Judged (NetFault job n k) G (addNet k n job)
-  unfolding addNet
   net-judged G g =
-      tested-judged (NetFault job n k) G (filled (withNet job n)) g (netTests k n job) net-rising net-stands net-covered
+      rw net-tested (tested-judged (NetFault job n k) G (filled (withNet job n)) g netTests net-rising net-stands net-covered)
 
 -- ---- a block
 
@@ -208,32 +244,37 @@ module _ (job : Job) (b : Block) (k : ℕ) where
   block-count-of : BlockFault job b k (TooMany k) → 256 ≤ length (job .blocks)
   block-count-of (block-count x) = x
 
-  block-rising : Rising (blockTests k b job)
-  unfolding blockTests
+  -- refusals 3 and 4, in this order
+  abbrev blockTests : List Test
+  blockTests = test (blockInRange (job .board) b) (OutOfRange k) ∷ test (ltb (length (job .blocks)) 256) (TooMany k) ∷ []
+
+  block-tested : addBlock k b job ≡ tested blockTests (go (filled (withBlock job b)))
+  unfolding addBlock
+  block-tested = refl
+
+  block-rising : Rising blockTests
   block-rising = omega arith
 
-  block-stands : Each (Stands (BlockFault job b k)) (blockTests k b job)
-  unfolding blockTests
+  block-stands : Standing (BlockFault job b k) blockTests
   block-stands = (
     record {
       fails = λ e. block-range (denied _ (block-range-is (job .board) b) e);
       passes = λ e f. block-range-of f (block-range-is (job .board) b .0 e);
     },
-    (
+    λ e3. (
       record { fails = λ e. block-count (omega (arith, ltb-false)); passes = λ e f. omega (arith, ltb-true, block-count-of f) },
-      tt,
+      λ e4. tt,
     ),
   )
 
-  block-covered : (o : Outcome) → BlockFault job b k o → List·Memᴰ o (outcomes (blockTests k b job))
-  unfolding blockTests
+  block-covered : (o : Outcome) → BlockFault job b k o → List·Memᴰ o (outcomes blockTests)
   block-covered o (block-range x) = List·Memᴰ·head refl
   block-covered o (block-count x) = List·Memᴰ·tail (List·Memᴰ·head refl)
 
   block-judged : (G : State → Type 0) → G (filled (withBlock job b)) → Judged (BlockFault job b k) G (addBlock k b job)
-  unfolding addBlock
   block-judged G g =
-      tested-judged (BlockFault job b k) G (filled (withBlock job b)) g (blockTests k b job) block-rising block-stands block-covered
+      rw block-tested
+      (tested-judged (BlockFault job b k) G (filled (withBlock job b)) g blockTests block-rising block-stands block-covered)
 
 -- ---- what the lines above hold
 
@@ -411,17 +452,17 @@ module _ (above : List Form) (k : ℕ) where
   unfolding withForm
   board-line r = ((lines-more above Is.Board refl ∙ (rw (r .0)), job-more noJob above Is.Board ∙ r .1), no-board r)
 
-  rows-line : (h : ℕ) → Reached opened above → Line (Is.Rows h) (tested (test (rowsInRange h) (OutOfRange k) ∷ []) (go (sized h)))
+  rows-line : (h : ℕ) → Reached opened above → Line (Is.Rows h) (unless (within 1 1024 h) (OutOfRange k) (go (sized h)))
   unfolding withForm
   rows-line h r =
       tested-judged (LineFault above k (Is.Rows h)) (λ s. Reached s (above ++ (Is.Rows h ∷ []))) (sized h)
       (lines-more above (Is.Rows h) refl ∙ (rw (r .0)), job-more noJob above (Is.Rows h) ∙ (rw (r .1)))
-      (test (rowsInRange h) (OutOfRange k) ∷ []) (tt, tt)
-      (record { fails = λ e. rows-range (denied _ (rows-is h) e); passes = λ e f. rows-of-line f (rows-is h .0 e) }, tt)
+      (test (within 1 1024 h) (OutOfRange k) ∷ []) (tt, tt)
+      (record { fails = λ e. rows-range (denied _ (within-is 1 1024 h) e); passes = λ e f. rows-of-line f (within-is 1 1024 h .0 e) }, λ e. tt)
       (rows-only h r)
 
   tracks-line : (t h : ℕ) → Reached (sized h) above →
-      Line (Is.Tracks t) (tested (test (tracksInRange t) (OutOfRange k) ∷ []) (go (filled (emptyBoard (boardOf h t)))))
+      Line (Is.Tracks t) (unless (within 1 128 t) (OutOfRange k) (go (filled (emptyBoard (boardOf h t)))))
   unfolding withForm
   tracks-line t h r =
       let f = Is.Tracks t in
@@ -429,8 +470,8 @@ module _ (above : List Form) (k : ℕ) where
       record { rows = h; tracks = t; items = []; lines-are = lines-more above f refl ∙ (rw (r .0)); items-are = tt } in
       tested-judged (LineFault above k f) (λ s. Reached s (above ++ (f ∷ []))) (filled (emptyBoard (boardOf h t)))
       (a, job-more noJob above f ∙ (rw (r .1)))
-      (test (tracksInRange t) (OutOfRange k) ∷ []) (tt, tt)
-      (record { fails = λ e. tracks-range (denied _ (tracks-is t) e); passes = λ e f. tracks-of-line f (tracks-is t .0 e) }, tt)
+      (test (within 1 128 t) (OutOfRange k) ∷ []) (tt, tt)
+      (record { fails = λ e. tracks-range (denied _ (within-is 1 128 t) e); passes = λ e f. tracks-of-line f (within-is 1 128 t .0 e) }, λ e. tt)
       (tracks-only t h r)
 
   net-line-judged : (i l r lo hi : ℕ) (job : Job) → Reached (filled job) above →

@@ -5,7 +5,6 @@ use mathlib.Core.Logic.{_↔_, _⊎_, inl, inr, ⊎-elim}
 use mathlib.Core.List.{List, [], _∷_, _++_, map, append-assoc, append-nil}
 use native.Mathlib.Omega.{arith}
 use lib.ListN.{length, length-append}
-use Rattle.lists.proofs.Cases.{by-test}
 use Rattle.board.specs.Job.{Job}
 use Rattle.text.specs.Bytes.{lines}
 use Rattle.jobfile.specs.declared.Form.{Form}
@@ -13,10 +12,10 @@ use Rattle.jobfile.specs.declared.Form.the-variants as Is
 use Rattle.jobfile.specs.declared.Outcome.{Outcome}
 use Rattle.jobfile.specs.declared.Outcome.the-variants.{TooLong, NotOfForm}
 use Rattle.jobfile.specs.Forms.{readForm}
-use Rattle.jobfile.specs.Read.{State, start, opened, sized, filled, closed, Next, go, stop, step, Read, accepted, refused, ended, follow, readFrom, shortEnough, readJob}
+use Rattle.jobfile.specs.Read.{State, start, opened, sized, filled, closed, Next, go, stop, step, Read, accepted, refused, ended, follow, readFrom, readJob}
 use Rattle.jobfile.specs.Answers.{numberOf, lineOf}
 use Rattle.jobfile.specs.Faults.{formsOf, jobFrom, jobIn, nonBlank, Ordered, LineFault, Fault, too-long, on-line, ends-early, FirstFault}
-use Rattle.jobfile.proofs.Tests.{short-is, not-short}
+use Rattle.jobfile.proofs.Tests.{read-cases}
 use Rattle.jobfile.proofs.Outcomes.{same-outcome}
 use Rattle.jobfile.proofs.LineFaults.{Reached, not-both, fault-at, Line, step-judged}
 
@@ -172,11 +171,8 @@ module _ (text : List ℕ) where
   long-answered h = record { fault = too-long h; first-line = λ p q. omega arith; first-number = λ p q e. fault-from p q }
 
   read-answered : Answered (readJob text)
-  unfolding readJob
   read-answered =
-      by-test (shortEnough text)
-      (λ e. rw e (answered (readFrom 1 start (lines text)) (short-is text .0 e) lines-right))
-      (λ e. rw e (long-answered (not-short text e)))
+      read-cases text Answered (λ h. answered (readFrom 1 start (lines text)) h lines-right) (λ h. long-answered h)
 
   -- a refused text has the fault that the answer names, none on a line before, and none of a smaller number on that line
   pub read-refused : (o : Outcome) → readJob text ≡ refused o → FirstFault text o

@@ -1,60 +1,57 @@
 -- What each test of a line says: it passes exactly where the fact holds that it stands for. Assumes nothing.
 use Prim.Native.Nat.{ℕ, _≤_, _<_}
-use mathlib.Core.Path.{_≡_, refl, sym, ap, _∙_}
+use mathlib.Core.Path.{_≡_, refl, sym, _∙_}
 use mathlib.Core.Logic.{_↔_}
-use mathlib.Core.Bool.{Bool, true, false, not, _&&_, true≢false}
+use mathlib.Core.Bool.{Bool, true, false, not, cond, _&&_, true≢false}
 use mathlib.Core.List.{List, [], _∷_, _++_}
 use native.Mathlib.Omega.{arith}
-use lib.Dec.{eqb, leb}
+use lib.Dec.{eqb, leb, ltb}
 use lib.ListN.{length}
 use borrow.Author.Tests.{leb-true, leb-false, le-leb, ltb-true, lt-ltb, eqb-false, ne-eqb, not-true}
-use Rattle.lists.proofs.Cases.{and-split, and-both}
+use Rattle.lists.proofs.Cases.{by-test, and-split, and-both}
 use Rattle.board.specs.declared.Board.{Board}
 use Rattle.board.specs.declared.Net.{Net}
 use Rattle.board.specs.declared.Block.{Block}
 use Rattle.board.specs.declared.Shape.{Shape}
-use Rattle.board.specs.Length.{Allowed, shortest}
+use Rattle.board.specs.Length.{Allowed, lengthOf, shortest}
 use Rattle.board.specs.Accepted.{NetInRange, BlockInRange}
 use Rattle.board.proofs.ShortestShape.{shortest-long, shortest-least}
-use Rattle.jobfile.specs.Read.{within, rowsInRange, tracksInRange, netInRange, blockInRange, aboveLast, pinsFree, someLength, shortEnough}
+use Rattle.text.specs.Bytes.{lines}
+use Rattle.jobfile.specs.declared.Outcome.the-variants.{TooLong}
+use Rattle.jobfile.specs.Read.{start, within, netInRange, blockInRange, pinsFree, lastNumber, Read, refused, readFrom, readJob}
 
 -- a test that fails denies what it stands for
 pub denied : {P : Type 0} (b : Bool) → ((b ≡ true) ↔ P) → b ≡ false → P → ⊥
 denied b t e p = true≢false (sym (t .1 p) ∙ e)
 
-leb-is : (a b : ℕ) → (leb a b ≡ true) ↔ (a ≤ b)
+pub leb-is : (a b : ℕ) → (leb a b ≡ true) ↔ (a ≤ b)
 leb-is a b = (leb-true a b, le-leb a b)
 
+pub ltb-is : (a b : ℕ) → (ltb a b ≡ true) ↔ (a < b)
+ltb-is a b = (ltb-true a b, lt-ltb a b)
+
 -- two tests of two facts
-and-is : {P Q : Type 0} (a b : Bool) → ((a ≡ true) ↔ P) → ((b ≡ true) ↔ Q) → ((a && b) ≡ true) ↔ (P × Q)
+pub and-is : {P Q : Type 0} (a b : Bool) → ((a ≡ true) ↔ P) → ((b ≡ true) ↔ Q) → ((a && b) ≡ true) ↔ (P × Q)
 and-is a b p q =
     (λ h. let s = and-split a b h in (p .0 (s .0), q .0 (s .1)), λ r. and-both a b (p .1 (r .0)) (q .1 (r .1)))
 
-within-is : (lo hi x : ℕ) → (within lo hi x ≡ true) ↔ ((lo ≤ x) × (x ≤ hi))
+pub within-is : (lo hi x : ℕ) → (within lo hi x ≡ true) ↔ ((lo ≤ x) × (x ≤ hi))
 unfolding within
 within-is lo hi x = and-is (leb lo x) (leb x hi) (leb-is lo x) (leb-is x hi)
 
-differ-is : (a b : ℕ) → (not (eqb a b) ≡ true) ↔ (a ≡ b → ⊥)
+pub differ-is : (a b : ℕ) → (not (eqb a b) ≡ true) ↔ (a ≡ b → ⊥)
 differ-is a b = (λ h. eqb-false a b (not-true (eqb a b) h), λ d. rw (ne-eqb a b d))
 
--- refusal 1
-pub short-is : (text : List ℕ) → (shortEnough text ≡ true) ↔ (length text ≤ 64000)
-unfolding shortEnough
-short-is text = (λ h. omega (arith, leb-true), λ l. omega (arith, le-leb))
+-- refusal 1: length first
+by-length : (P : Read → Type 0) (a b : ℕ) (x y : Read) → (a ≤ b → P x) → (b < a → P y) → P (cond (leb a b) x y)
+by-length P a b x y f g = by-test (leb a b) (λ e. rw e (f (leb-true a b e))) (λ e. rw e (g (leb-false a b e)))
 
-pub not-short : (text : List ℕ) → shortEnough text ≡ false → 64000 < length text
-unfolding shortEnough
-not-short text e = omega (arith, leb-false)
+pub read-cases : (text : List ℕ) (P : Read → Type 0) → (length text ≤ 64000 → P (readFrom 1 start (lines text))) →
+    (64000 < length text → P (refused TooLong)) → P (readJob text)
+unfolding readJob
+read-cases text P f g = by-length P (length text) 64000 (readFrom 1 start (lines text)) (refused TooLong) f g
 
 -- refusal 3
-pub rows-is : (h : ℕ) → (rowsInRange h ≡ true) ↔ ((1 ≤ h) × (h ≤ 1024))
-unfolding rowsInRange
-rows-is h = (λ e. omega (arith, within-is _ _ h .0 e), λ r. within-is _ _ h .1 (omega arith))
-
-pub tracks-is : (k : ℕ) → (tracksInRange k ≡ true) ↔ ((1 ≤ k) × (k ≤ 128))
-unfolding tracksInRange
-tracks-is k = (λ e. omega (arith, within-is _ _ k .0 e), λ r. within-is _ _ k .1 (omega arith))
-
 pub net-range-is : (board : Board) (n : Net) → (netInRange board n ≡ true) ↔ NetInRange board n
 unfolding netInRange
 net-range-is board n =
@@ -91,30 +88,25 @@ block-range-is board b =
       λ r. t .1 (((r .track-range, (r .first-range, omega arith)), (omega arith, r .last-range)), r .in-order),
     )
 
--- refusal 5
-pub above-is : (before : List Net) (m : Net) (i : ℕ) → (aboveLast (before ++ (m ∷ [])) i ≡ true) ↔ (m .number < i)
-unfolding aboveLast
-above-is [] m i = (λ h. omega (arith, ltb-true), λ l. omega (arith, lt-ltb))
-above-is (x ∷ []) m i = (λ h. omega (arith, ltb-true), λ l. omega (arith, lt-ltb))
-above-is (x ∷ y ∷ ys) m i = above-is (y ∷ ys) m i
+-- refusal 5: the number of the last net
+pub last-number : (k : ℕ) (ms : List Net) (m : Net) → lastNumber k (ms ++ (m ∷ [])) ≡ m .number
+unfolding lastNumber
+last-number k [] m = refl
+last-number k (x ∷ ms) m = last-number (x .number) ms m
 
 -- the last net of a list that has one
-pub record LastNet (ns : List Net) : Type 0 where
+pub record LastNet (k : ℕ) (ns : List Net) : Type 0 where
   pub before : List Net
   pub last : Net
   pub is-last : ns ≡ before ++ (last ∷ [])
+  pub has-number : lastNumber k ns ≡ last .number
 
-last-net : (n : Net) (ns : List Net) → LastNet (n ∷ ns)
-last-net n [] = record { before = []; last = n; is-last = refl }
-last-net n (m ∷ ns) =
-    let r = last-net m ns in
-    record { before = n ∷ r .before; last = r .last; is-last = ap (λ xs. n ∷ xs) (r .is-last) }
-
--- a number that is not above has a net before it
-pub not-above-last : (ns : List Net) (i : ℕ) → aboveLast ns i ≡ false → LastNet ns
-unfolding aboveLast
-not-above-last [] i e = absurd (true≢false e)
-not-above-last (n ∷ ns) i e = last-net n ns
+pub last-net : (k : ℕ) (n : Net) (ns : List Net) → LastNet k (n ∷ ns)
+unfolding lastNumber
+last-net k n [] = record { before = []; last = n; is-last = refl; has-number = refl }
+last-net k n (m ∷ ns) =
+    let r = last-net (n .number) m ns in
+    record { before = n ∷ r .before; last = r .last; is-last = rw (r .is-last); has-number = r .has-number }
 
 -- refusal 6
 pub free-is : (n m : Net) → (pinsFree n m ≡ true) ↔ ((m .left .0 ≡ n .left .0 → ⊥) × (m .right .0 ≡ n .right .0 → ⊥))
@@ -123,14 +115,11 @@ free-is n m =
     and-is (not (eqb (m .left .0) (n .left .0))) (not (eqb (m .right .0) (n .right .0)))
     (differ-is (m .left .0) (n .left .0)) (differ-is (m .right .0) (n .right .0))
 
--- refusal 7
-pub ends-is : (n : Net) → (not (eqb (n .left .0) (n .right .0)) ≡ true) ↔ (n .left .0 ≡ n .right .0 → ⊥)
-ends-is n = differ-is (n .left .0) (n .right .0)
-
--- refusal 8
-pub length-is : (board : Board) (n : Net) → (someLength board n ≡ true) ↔ ((s : Shape) × Allowed board n s)
-unfolding someLength
+-- refusal 8: some length is allowed
+pub length-is : (board : Board) (n : Net) →
+    (leb (lengthOf board n (shortest board n)) (n .max) ≡ true) ↔ ((s : Shape) × Allowed board n s)
 length-is board n = (
-  λ h. (shortest board n, record { long = shortest-long board n; short = omega (arith, leb-true) }),
-  λ r. let l = shortest-least board n (r .0) (r .1) in omega (arith, le-leb, r .1 .short),
+  λ h. (shortest board n, record { long = shortest-long board n; short = leb-true _ _ h }),
+  λ r. let l = shortest-least board n (r .0) (r .1) in
+      le-leb (lengthOf board n (shortest board n)) (n .max) (omega (arith, r .1 .short)),
 )

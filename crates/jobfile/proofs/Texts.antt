@@ -8,6 +8,7 @@ use native.Mathlib.Omega.{arith}
 use lib.ListN.{replicate, length-replicate}
 use Rattle.lists.specs.Lists.{allOf}
 use Rattle.board.specs.Job.{Job}
+use Rattle.board.proofs.WorkedBoard.{workedJob}
 use Rattle.board.specs.Length.{width, upper, lower, span, plainLength, shortest, needed}
 use Rattle.text.specs.Bytes.{lines, same, joined, pieces, nonEmpty}
 use Rattle.text.specs.Digits.{valueFrom, number}
@@ -15,8 +16,8 @@ use Rattle.keywords.specs.Keywords.{findFrom, findWord}
 use Rattle.lines.specs.Tokens.{spaced, lineWords}
 use Rattle.jobfile.specs.declared.Outcome.the-variants.{NotOfForm, OutOfRange, TooMany, NumberNotAbove, PinUsed, SameRow, NoLength, TooFewRows}
 use Rattle.jobfile.specs.Forms.{noWord, ifLast, consNumber, arguments, formFrom, formAfter, formOpened, formOf, readForm}
-use Rattle.jobfile.specs.Read.{start, stop, tested, atStart, atOpened, atSized, atFilled, within, netOf, blockOf, boardOf, emptyBoard, rowsInRange, tracksInRange, netInRange, blockInRange, aboveLast, pinsFree, someLength, netTests, blockTests, addNet, addBlock, step, Read, accepted, refused, ended, follow, readFrom, shortEnough, readJob}
-use Rattle.jobfile.proofs.Tests.{short-is}
+use Rattle.jobfile.specs.Read.{start, stop, unless, atStart, atOpened, atSized, atFilled, within, netOf, blockOf, boardOf, emptyBoard, netInRange, blockInRange, lastNumber, pinsFree, addNet, addBlock, step, Read, accepted, refused, ended, follow, readFrom, readJob}
+use Rattle.jobfile.proofs.Tests.{read-cases}
 
 -- the bytes of a text of ASCII characters
 abbrev bytes : S.String → List ℕ
@@ -25,7 +26,7 @@ bytes (S._∷_ c s) = code c ∷ bytes s
 
 -- what a text is read as
 readAs : S.String → Read
-unfolding readJob shortEnough readFrom follow ended step addBlock addNet blockTests netTests someLength pinsFree aboveLast blockInRange netInRange tracksInRange rowsInRange within atFilled atSized atOpened atStart tested readForm formOf formOpened formAfter formFrom arguments consNumber ifLast noWord lineWords spaced findWord findFrom number valueFrom nonEmpty pieces joined same needed shortest plainLength span lower upper width allOf
+unfolding readJob readFrom follow ended step addBlock addNet pinsFree lastNumber blockInRange netInRange within atFilled atSized atOpened atStart unless readForm formOf formOpened formAfter formFrom arguments consNumber ifLast noWord lineWords spaced findWord findFrom number valueFrom nonEmpty pieces joined same needed shortest plainLength span lower upper width allOf
 readAs s = readJob (bytes s)
 
 -- a text that ends early is refused at the line after its last; any faulty line above counts before that
@@ -120,18 +121,10 @@ unfolding readAs
 lengths = (refl, refl, refl, refl, refl, refl)
 
 -- document 01's worked board
-abbrev worked : Job
-worked =
-    record {
-      board = boardOf 10 2;
-      nets = netOf 1 2 4 7 7 ∷ netOf 2 6 8 11 12 ∷ netOf 3 9 10 6 8 ∷ netOf 4 3 2 6 6 ∷ netOf 5 5 6 6 6 ∷ [];
-      blocks = blockOf 2 6 6 ∷ [];
-    }
-
 worked-board :
     readAs
     "(board\n (rows 10)\n (tracks 2)\n (net 1 2 4 7 7)\n (net 2 6 8 11 12)\n (net 3 9 10 6 8)\n (net 4 3 2 6 6)\n (net 5 5 6 6 6)\n (block 2 6 6)\n)\n"
-    ≡ accepted worked
+    ≡ accepted workedJob
 unfolding readAs
 worked-board = refl
 
@@ -144,11 +137,12 @@ empty-from (suc n) k =
     empty-from n (suc k) ∙ ap (λ i. refused (NotOfForm i)) e
 
 empty-lines : (n : ℕ) → n ≤ 64000 → readJob (replicate n 10) ≡ refused (NotOfForm (suc n))
-unfolding readJob
 empty-lines n h =
     let l = length-replicate {A = ℕ} n 10 in
     let e : 1 + n ≡ suc n = omega arith in
-    rw (short-is (replicate n 10) .1 (omega arith)) (empty-from n 1 ∙ ap (λ i. refused (NotOfForm i)) e)
+    read-cases (replicate n 10) (λ r. r ≡ refused (NotOfForm (suc n)))
+    (λ m. empty-from n 1 ∙ ap (λ i. refused (NotOfForm i)) e)
+    (λ m. absurd (omega arith))
 
 -- a 513th net counts as one too many before its number is looked at, and its ranges count before that; the same of a 257th block
 abbrev full : Job

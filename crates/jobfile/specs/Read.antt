@@ -1,6 +1,6 @@
 -- Document 01, "Text of a job" and "Operations", read: a text becomes a job, or a refusal that names its line.
 use Prim.Native.Nat.{ℕ, suc}
-use mathlib.Core.Bool.{Bool, true, not, cond, _&&_}
+use mathlib.Core.Bool.{Bool, not, cond, _&&_}
 use mathlib.Core.List.{List, [], _∷_, _++_}
 use lib.Dec.{eqb, leb, ltb}
 use lib.ListN.{length}
@@ -30,18 +30,9 @@ pub data Next : Type 0 where
   go : State → Next
   stop : Outcome → Next
 
--- a test of a line, and what the text is refused for where it fails
-pub record Test : Type 0 where
-  pub passed : Bool
-  pub otherwise : Outcome
-
-abbrev pub test : Bool → Outcome → Test
-test passed o = record { passed = passed; otherwise = o }
-
--- refused for the first test that fails
-unfoldable pub tested : List Test → Next → Next
-tested [] x = x
-tested (t ∷ ts) x = let rest = tested ts x in cond (t .passed) rest (stop (t .otherwise))
+-- refused where a test fails
+unfoldable pub unless : Bool → Outcome → Next → Next
+unless passed o x = cond passed x (stop o)
 
 -- `(board` stands first, `(rows H)` behind it, `(tracks K)` behind that, then nets, blocks and the closing bracket; anywhere else
 -- line k is not of the form
@@ -96,13 +87,7 @@ withNet job n = record { board = job .board; nets = job .nets ++ (n ∷ []); blo
 abbrev pub withBlock : Job → Block → Job
 withBlock job b = record { board = job .board; nets = job .nets; blocks = job .blocks ++ (b ∷ []) }
 
--- H and K, the numbers of a net and those of a block are in their ranges
-unfoldable pub rowsInRange : ℕ → Bool
-rowsInRange h = within 1 1024 h
-
-unfoldable pub tracksInRange : ℕ → Bool
-tracksInRange k = within 1 128 k
-
+-- the numbers of a net, and of a block, are in their ranges
 unfoldable pub netInRange : Board → Net → Bool
 netInRange board n =
     within 1 9999 (n .number) &&
@@ -118,53 +103,40 @@ blockInRange board b =
     within 1 (board .rows) (b .last .0) &&
     leb (b .first .0) (b .last .0)
 
--- a net number is above that of the last net, where there is one
-unfoldable pub aboveLast : List Net → ℕ → Bool
-aboveLast [] i = true
-aboveLast (m ∷ []) i = ltb (m .number) i
-aboveLast (m ∷ n ∷ ns) i = aboveLast (n ∷ ns) i
+-- the number of the last net; k where there is none
+unfoldable pub lastNumber : ℕ → List Net → ℕ
+lastNumber k [] = k
+lastNumber k (n ∷ ns) = lastNumber (n .number) ns
 
 -- net m leaves the pins of net n free
 unfoldable pub pinsFree : Net → Net → Bool
 pinsFree n m = not (eqb (m .left .0) (n .left .0)) && not (eqb (m .right .0) (n .right .0))
 
--- the shortest length from min on is at most max
-unfoldable pub someLength : Board → Net → Bool
-someLength board n = leb (lengthOf board n (shortest board n)) (n .max)
-
--- refusals 3 to 9 of net n on line k, in the order of their numbers
-unfoldable pub netTests : ℕ → Net → Job → List Test
-netTests k n job =
-    test (netInRange (job .board) n) (OutOfRange k) ∷
-    test (ltb (length (job .nets)) 512) (TooMany k) ∷
-    test (aboveLast (job .nets) (n .number)) (NumberNotAbove k) ∷
-    test (allOf (pinsFree n) (job .nets)) (PinUsed k) ∷
-    test (not (eqb (n .left .0) (n .right .0))) (SameRow k) ∷
-    test (someLength (job .board) n) (NoLength k) ∷
-    test (leb (needed (job .board) n) (job .board .rows)) (TooFewRows k) ∷
-    []
-
--- refusals 3 and 4 of block b on line k
-unfoldable pub blockTests : ℕ → Block → Job → List Test
-blockTests k b job =
-    test (blockInRange (job .board) b) (OutOfRange k) ∷
-    test (ltb (length (job .blocks)) 256) (TooMany k) ∷
-    []
-
--- the job with one more net or block, where it passes its tests
+-- line k is a net: refusals 3 to 9, the first that fits
 unfoldable pub addNet : ℕ → Net → Job → Next
-addNet k n job = tested (netTests k n job) (go (filled (withNet job n)))
+addNet k n job =
+    unless (netInRange (job .board) n) (OutOfRange k)
+    (unless (ltb (length (job .nets)) 512) (TooMany k)
+    (unless (ltb (lastNumber 0 (job .nets)) (n .number)) (NumberNotAbove k)
+    (unless (allOf (pinsFree n) (job .nets)) (PinUsed k)
+    (unless (not (eqb (n .left .0) (n .right .0))) (SameRow k)
+    (unless (leb (lengthOf (job .board) n (shortest (job .board) n)) (n .max)) (NoLength k)
+    (unless (leb (needed (job .board) n) (job .board .rows)) (TooFewRows k)
+    (go (filled (withNet job n)))))))))
 
+-- line k is a block: refusals 3 and 4
 unfoldable pub addBlock : ℕ → Block → Job → Next
-addBlock k b job = tested (blockTests k b job) (go (filled (withBlock job b)))
+addBlock k b job =
+    unless (blockInRange (job .board) b) (OutOfRange k)
+    (unless (ltb (length (job .blocks)) 256) (TooMany k)
+    (go (filled (withBlock job b))))
 
 -- line k, of the given form, below the lines that led to a state
 unfoldable pub step : ℕ → State → Form → Next
 step k s Is.Blank = go s
 step k s Is.Board = atStart k s (go opened)
-step k s (Is.Rows h) = atOpened k s (tested (test (rowsInRange h) (OutOfRange k) ∷ []) (go (sized h)))
-step k s (Is.Tracks t) =
-    atSized k s (λ h. tested (test (tracksInRange t) (OutOfRange k) ∷ []) (go (filled (emptyBoard (boardOf h t)))))
+step k s (Is.Rows h) = atOpened k s (unless (within 1 1024 h) (OutOfRange k) (go (sized h)))
+step k s (Is.Tracks t) = atSized k s (λ h. unless (within 1 128 t) (OutOfRange k) (go (filled (emptyBoard (boardOf h t)))))
 step k s (Is.Net i l r lo hi) = atFilled k s (addNet k (netOf i l r lo hi))
 step k s (Is.Block t a b) = atFilled k s (addBlock k (blockOf t a b))
 step k s Is.Close = atFilled k s (λ job. go (closed job))
@@ -192,10 +164,6 @@ unfoldable pub readFrom : ℕ → State → List (List ℕ) → Read
 readFrom k s [] = ended k s
 readFrom k s (l ∷ ls) = follow (step k s (readForm l)) (λ t. readFrom (suc k) t ls)
 
--- a text of at most 64,000 bytes
-unfoldable pub shortEnough : List ℕ → Bool
-shortEnough text = leb (length text) 64000
-
 -- read: the length is tested first
 unfoldable pub readJob : List ℕ → Read
-readJob text = let r = readFrom 1 start (lines text) in cond (shortEnough text) r (refused TooLong)
+readJob text = let r = readFrom 1 start (lines text) in cond (leb (length text) 64000) r (refused TooLong)

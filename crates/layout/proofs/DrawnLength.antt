@@ -41,7 +41,7 @@ distinct-length p (q ∷ qs) =
     let h = distinct-length q qs in
     by-test (samePoint p q)
     (λ e. let s = same-true p q e in
-      rw e (step p q qs e ∙ h ∙ (omega (arith, near (p .column) (q .column) (s .0), near (p .row) (q .row) (s .1)))))
+    rw e (step p q qs e ∙ h ∙ (omega (arith, near (p .column) (q .column) (s .0), near (p .row) (q .row) (s .1)))))
     (λ e. rw e (rw h))
 
 up : (a b : ℕ) → a ≤ b → between a b + a ≡ b
@@ -100,15 +100,35 @@ path-stretched job t e p a b q x y =
     let m : bottom p ≡ p .top + span n + e = ap (λ s. p .top + span n + extra s) q in
     by-test (ltb (n .left .0) (n .right .0))
     (λ h. rw h (
-      let l : n .left .0 < n .right .0 = ltb-true _ _ h in
-      let s = span-up n (omega arith) in
-      omega (arith, self (n .left .0), self (viaColumn t), self (wireColumn t), self (n .right .0), self (p .top), self (bottom p),
-        down (n .left .0) (p .top) (omega (arith, s)), up (p .top) (bottom p) (omega (arith, m)), down (bottom p) (n .right .0) (omega (arith, s, m)))))
+    let l : n .left .0 < n .right .0 = ltb-true _ _ h in
+    let s = span-up n (omega arith) in
+    omega (
+      arith,
+      self (n .left .0),
+      self (viaColumn t),
+      self (wireColumn t),
+      self (n .right .0),
+      self (p .top),
+      self (bottom p),
+      down (n .left .0) (p .top) (omega (arith, s)),
+      up (p .top) (bottom p) (omega (arith, m)),
+      down (bottom p) (n .right .0) (omega (arith, s, m)),
+    )))
     (λ h. rw h (
-      let l : n .right .0 ≤ n .left .0 = ltb-false _ _ h in
-      let s = span-down n l in
-      omega (arith, self (n .left .0), self (viaColumn t), self (wireColumn t), self (n .right .0), self (p .top), self (bottom p),
-        up (n .left .0) (bottom p) (omega (arith, s, m)), down (bottom p) (p .top) (omega (arith, m)), up (p .top) (n .right .0) (omega (arith, s)))))
+    let l : n .right .0 ≤ n .left .0 = ltb-false _ _ h in
+    let s = span-down n l in
+    omega (
+      arith,
+      self (n .left .0),
+      self (viaColumn t),
+      self (wireColumn t),
+      self (n .right .0),
+      self (p .top),
+      self (bottom p),
+      up (n .left .0) (bottom p) (omega (arith, s, m)),
+      down (bottom p) (p .top) (omega (arith, m)),
+      up (p .top) (n .right .0) (omega (arith, s)),
+    )))
 
 -- a drawing has the length of its shape
 pub drawn-length-of : (job : Job) (t : ℕ) (p : Placement) → 1 ≤ t → t ≤ job .board .tracks → Legal (job .board) p → pathLength (pointsOn (job .board) t p) ≡ lengthOf (job .board) (p .net) (p .shape)

@@ -6,7 +6,11 @@ use board::Track;
 // Where a net stands: on no track, or on a track with its top at a row, in a shape.
 pub enum Stand {
     Loose,
-    Wired { track: Track, top: Row, shape: Shape },
+    Wired {
+        track: Track,
+        top: Row,
+        shape: Shape,
+    },
 }
 
 // The plan of one net.

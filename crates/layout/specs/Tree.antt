@@ -1,11 +1,7 @@
 -- Document 01, "Drawing": a layout as a tree, and the lines that it has.
 use mathlib.Core.List.{List}
 use Prim.Native.Nat.{ℕ}
-
--- a point of a wire: (column row)
-pub record Point : Type 0 where
-  pub column : ℕ
-  pub row : ℕ
+pub use Rattle.layout.specs.declared.Point.{Point}
 
 -- a wire line: the number of its net, and its points
 pub record Wire : Type 0 where

@@ -21,7 +21,8 @@ use Rattle.board.specs.Accepted.{Accepted}
 use Rattle.board.proofs.ShortestShape.{worth-needed}
 use Rattle.text.specs.Digits.{digits}
 use Rattle.text.proofs.Numbers.{length-digits}
-use Rattle.layout.specs.Tree.{Point, Wire, DrawnTrack, Layout, Line, track, wire, loose, closes}
+use Rattle.layout.specs.declared.Point.{Point}
+use Rattle.layout.specs.Tree.{Wire, DrawnTrack, Layout, Line, track, wire, loose, closes}
 use Rattle.layout.specs.LayoutText.{pointsThen, lineText, linesText, wiresThen, tracksThen, looseThen, layoutLines, layoutText}
 use Rattle.layout.specs.ReadBack.{smallPoints, smallLine, smallLines, isSmall}
 use Rattle.layout.specs.Drawing.{viaColumn, wireColumn, at, samePoint, distinctFrom, nearRow, farRow, corners, pointsOn, wireOf}

@@ -1,0 +1,2 @@
+-- The parts of the lines of a layout.
+pub mod Parts

@@ -1,0 +1,43 @@
+-- The texts of points and lines in parts, as the writers write them, and their lengths. Assumes nothing.
+use Prim.Native.Nat.{ℕ, _+_}
+use mathlib.Core.Path.{_≡_, refl, sym}
+use mathlib.Core.Bool.{true, false}
+use mathlib.Core.List.{List, [], _∷_, _++_, append-assoc}
+use native.Mathlib.Omega.{arith}
+use lib.ListN.{length, length-append, take-append-drop}
+use Rattle.text.specs.Written.{WrittenAt}
+use Rattle.text.specs.Digits.{digits}
+use Rattle.keywords.specs.Keywords.{wordOf}
+use Rattle.keywords.specs.declared.Vocabulary.the-variants.{Layout}
+use Rattle.layout.specs.declared.Point.{Point}
+use Rattle.layout.specs.Drawing.{samePoint}
+use Rattle.writer.specs.Lines.{headText, pointText, nextText, threeText}
+
+pub head-parts : (i n : ℕ) → headText i n ≡ ((32 ∷ 40 ∷ []) ++ wordOf Layout i) ++ (32 ∷ digits n)
+unfolding headText
+head-parts i n = simp append-assoc
+
+pub head-length : (i n : ℕ) → length (headText i n) ≡ 3 + length (wordOf Layout i) + length (digits n)
+unfolding headText
+head-length i n = simp length-append (omega arith)
+
+pub point-parts : (p : Point) → pointText p ≡ (((32 ∷ 40 ∷ []) ++ digits (p .column)) ++ (32 ∷ digits (p .row))) ++ (41 ∷ [])
+unfolding pointText
+point-parts p = simp append-assoc
+
+pub point-length : (p : Point) → length (pointText p) ≡ 4 + length (digits (p .column)) + length (digits (p .row))
+unfolding pointText
+point-length p = simp length-append (omega arith)
+
+pub three-length : (p q r s : Point) → length (threeText p q r s) ≡ length (nextText p q) + length (nextText q r) + length (nextText r s)
+unfolding threeText
+three-length p q r s = simp length-append (omega arith)
+
+-- a point behind an equal one is left out, and nothing is written
+pub next-same : (p q : Point) (at : ℕ) (s : List ℕ) → samePoint p q ≡ true → WrittenAt at (nextText p q) s s at
+unfolding nextText
+next-same p q at s e = rw e (record { next = omega arith; bytes = sym (take-append-drop at s) })
+
+pub next-other : (p q : Point) → samePoint p q ≡ false → nextText p q ≡ pointText q
+unfolding nextText
+next-other p q e = rw e

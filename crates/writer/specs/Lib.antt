@@ -1,0 +1,2 @@
+-- The texts that the line writers write.
+pub mod Lines

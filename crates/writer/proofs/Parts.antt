@@ -2,7 +2,7 @@
 use Prim.Native.Nat.{ℕ, _+_}
 use mathlib.Core.Path.{_≡_, refl, sym}
 use mathlib.Core.Bool.{true, false}
-use mathlib.Core.List.{List, [], _∷_, _++_, append-assoc}
+use mathlib.Core.List.{List, [], _∷_, _++_, append-assoc, append-nil}
 use native.Mathlib.Omega.{arith}
 use lib.ListN.{length, length-append, take-append-drop}
 use Rattle.text.specs.Written.{WrittenAt}
@@ -10,8 +10,8 @@ use Rattle.text.specs.Digits.{digits}
 use Rattle.keywords.specs.Keywords.{wordOf}
 use Rattle.keywords.specs.declared.Vocabulary.the-variants.{Layout}
 use Rattle.layout.specs.declared.Point.{Point}
-use Rattle.layout.specs.Drawing.{samePoint}
-use Rattle.writer.specs.Lines.{headText, pointText, nextText, threeText}
+use Rattle.layout.specs.Drawing.{at, samePoint}
+use Rattle.writer.specs.Lines.{headText, pointText, nextText, threeText, pathText, pinText, plainPath, stretchedPath}
 
 pub head-parts : (i n : ℕ) → headText i n ≡ ((32 ∷ 40 ∷ []) ++ wordOf Layout i) ++ (32 ∷ digits n)
 unfolding headText
@@ -41,3 +41,14 @@ next-same p q at s e = rw e (record { next = omega arith; bytes = sym (take-appe
 pub next-other : (p q : Point) → samePoint p q ≡ false → nextText p q ≡ pointText q
 unfolding nextText
 next-other p q e = rw e
+
+-- the points of a plain wire are the pin and three more; those of a stretched one the pin, three, three and one more
+pub plain-parts : (c w l r : ℕ) → pinText l (plainPath c w l r) ≡ pointText (at 0 l) ++ threeText (at 0 l) (at c l) (at c r) (at w r)
+unfolding pinText pathText threeText
+plain-parts c w l r = simp (append-assoc, append-nil)
+
+pub stretched-parts : (c w l r u v : ℕ) → pinText l (stretchedPath c w l r u v) ≡
+    ((pointText (at 0 l) ++ threeText (at 0 l) (at c l) (at c u) (at (c + 1) u)) ++ threeText (at (c + 1) u) (at (c + 1) v) (at c v) (at c r)) ++
+    nextText (at c r) (at w r)
+unfolding pinText pathText threeText
+stretched-parts c w l r u v = simp (append-assoc, append-nil)

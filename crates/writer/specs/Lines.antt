@@ -1,5 +1,5 @@
 -- The lines of a layout in the parts that the writers write.
-use Prim.Native.Nat.{ℕ}
+use Prim.Native.Nat.{ℕ, _+_}
 use mathlib.Core.Bool.{cond}
 use mathlib.Core.List.{List, [], _∷_, _++_}
 use Rattle.text.specs.Digits.{digits}
@@ -8,7 +8,7 @@ use Rattle.keywords.specs.declared.Vocabulary.the-variants.{Layout}
 use Rattle.layout.specs.Tree.{Line}
 use Rattle.layout.specs.declared.Point.{Point}
 use Rattle.layout.specs.LayoutText.{lineText}
-use Rattle.layout.specs.Drawing.{samePoint}
+use Rattle.layout.specs.Drawing.{at, samePoint}
 
 -- a line and its byte 10
 abbrev pub endedLine : Line → List ℕ
@@ -29,3 +29,20 @@ nextText p q = cond (samePoint p q) [] (pointText q)
 -- three points behind another
 unfoldable pub threeText : Point → Point → Point → Point → List ℕ
 threeText p q r s = (nextText p q ++ nextText q r) ++ nextText r s
+
+-- points one behind another
+unfoldable pub pathText : Point → List Point → List ℕ
+pathText p [] = []
+pathText p (q ∷ qs) = nextText p q ++ pathText q qs
+
+-- the points of a wire: the left pin at row l, and what stands behind it
+unfoldable pub pinText : ℕ → List Point → List ℕ
+pinText l qs = pointText (at 0 l) ++ pathText (at 0 l) qs
+
+-- what stands behind the pin of a plain wire and of a stretched one: via column c, right pins in column w, pins at rows l and r, the
+-- stretched part from row u to row v
+abbrev pub plainPath : ℕ → ℕ → ℕ → ℕ → List Point
+plainPath c w l r = at c l ∷ at c r ∷ at w r ∷ []
+
+abbrev pub stretchedPath : ℕ → ℕ → ℕ → ℕ → ℕ → ℕ → List Point
+stretchedPath c w l r u v = at c l ∷ at c u ∷ at (c + 1) u ∷ at (c + 1) v ∷ at c v ∷ at c r ∷ at w r ∷ []

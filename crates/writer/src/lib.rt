@@ -4,7 +4,7 @@ ghost use Prim.Native.Nat.{_+_, _≤_, _<_};
 ghost use lib.ListN.{length};
 ghost use Rattle.text.specs.Written.{WrittenAt};
 ghost use Rattle.layout.specs.Drawing.{samePoint};
-ghost use Rattle.writer.specs.Lines.{headText, pointText, nextText, threeText};
+ghost use Rattle.writer.specs.Lines.{headText, pointText, nextText, threeText, pinText, plainPath, stretchedPath};
 use keywords::Vocabulary;
 use layout::Point;
 
@@ -58,4 +58,51 @@ fn put_three(out: &mut [u8], at: usize, p: Point, q: Point, r: Point, s: Point) 
     let a = put_next(out, at, p, q);
     let b = put_next(out, a, q, r);
     put_next(out, b, r, s)
+}
+
+// Writes the points of a plain wire: via column c, right pins in column w, pins at rows l and r.
+fn put_plain(out: &mut [u8], at: usize, c: usize, w: usize, l: usize, r: usize) -> usize
+    requires { ⌜ at + length (pinText l (plainPath c w l r)) ≤ length (now out) ⌝ }
+    ensures { λ e. ⌜ WrittenAt at (pinText l (plainPath c w l r)) (now (out .entry)) (now (out .exit)) e ⌝ }
+{
+    let pin = Point { column: 0, row: l };
+    let a = put_point(out, at, pin);
+    let p = Point { column: c, row: l };
+    let q = Point { column: c, row: r };
+    let s = Point { column: w, row: r };
+    put_three(out, a, pin, p, q, s)
+}
+
+// Writes the points of a stretched wire, whose stretched part goes from row u to row v.
+fn put_stretched(
+    out: &mut [u8],
+    at: usize,
+    c: usize,
+    w: usize,
+    l: usize,
+    r: usize,
+    u: usize,
+    v: usize,
+) -> usize
+    requires { ⌜ (c ≤ 1024) × (at + length (pinText l (stretchedPath c w l r u v)) ≤ length (now out)) ⌝ }
+    ensures { λ e. ⌜ WrittenAt at (pinText l (stretchedPath c w l r u v)) (now (out .entry)) (now (out .exit)) e ⌝ }
+{
+    let pin = Point { column: 0, row: l };
+    let a = put_point(out, at, pin);
+    let p1 = Point { column: c, row: l };
+    let p2 = Point { column: c, row: u };
+    let p3 = Point {
+        column: c + 1,
+        row: u,
+    };
+    let b = put_three(out, a, pin, p1, p2, p3);
+    let p4 = Point {
+        column: c + 1,
+        row: v,
+    };
+    let p5 = Point { column: c, row: v };
+    let p6 = Point { column: c, row: r };
+    let d = put_three(out, b, p3, p4, p5, p6);
+    let p7 = Point { column: w, row: r };
+    put_next(out, d, p6, p7)
 }

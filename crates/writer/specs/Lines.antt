@@ -1,14 +1,22 @@
 -- The lines of a layout in the parts that the writers write.
-use Prim.Native.Nat.{ℕ, _+_}
+use Prim.Native.Nat.{ℕ, _+_, _≤_}
 use mathlib.Core.Bool.{cond}
 use mathlib.Core.List.{List, [], _∷_, _++_}
 use Rattle.text.specs.Digits.{digits}
 use Rattle.keywords.specs.Keywords.{wordOf}
 use Rattle.keywords.specs.declared.Vocabulary.the-variants.{Layout}
-use Rattle.layout.specs.Tree.{Line}
+use Rattle.board.specs.declared.Board.{Board}
+use Rattle.board.specs.declared.Net.{Net}
+use Rattle.board.specs.declared.Row.{Row}
+use Rattle.board.specs.declared.Shape.{Shape}
+use Rattle.board.specs.declared.Track.{Track}
+use Rattle.board.specs.Length.{extra}
+use Rattle.board.specs.Placement.{Placement}
+use Rattle.board.specs.Accepted.{BoardInRange, NetInRange}
+use Rattle.layout.specs.Tree.{Line, wire}
 use Rattle.layout.specs.declared.Point.{Point}
 use Rattle.layout.specs.LayoutText.{lineText}
-use Rattle.layout.specs.Drawing.{at, samePoint}
+use Rattle.layout.specs.Drawing.{at, samePoint, corners, wireOf}
 
 -- a line and its byte 10
 abbrev pub endedLine : Line → List ℕ
@@ -46,3 +54,22 @@ plainPath c w l r = at c l ∷ at c r ∷ at w r ∷ []
 
 abbrev pub stretchedPath : ℕ → ℕ → ℕ → ℕ → ℕ → ℕ → List Point
 stretchedPath c w l r u v = at c l ∷ at c u ∷ at (c + 1) u ∷ at (c + 1) v ∷ at c v ∷ at c r ∷ at w r ∷ []
+
+-- the placement that is drawn
+abbrev pub placed : Net → Shape → Row → Placement
+placed net shape top = record { net = net; shape = shape; top = top .0 }
+
+-- the points of a placement on a track, and the line of its wire
+abbrev pub pointsText : Board → Track → Net → Shape → Row → List ℕ
+pointsText board track net shape top = pinText (net .left .0) (corners board (track .0) (placed net shape top) shape)
+
+abbrev pub wireLine : Board → Track → Net → Shape → Row → List ℕ
+wireLine board track net shape top = endedLine (wire (wireOf board (track .0) (placed net shape top)))
+
+-- small enough to be drawn: nothing overflows
+pub record Drawable (board : Board) (track : Track) (net : Net) (shape : Shape) (top : Row) : Type 0 where
+  pub board-range : BoardInRange board
+  pub net-range : NetInRange board net
+  pub track-range : (1 ≤ track .0) × (track .0 ≤ 128)
+  pub stretch-range : extra shape ≤ 4096
+  pub top-range : top .0 ≤ 1024

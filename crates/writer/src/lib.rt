@@ -4,7 +4,13 @@ ghost use Prim.Native.Nat.{_+_, _≤_, _<_};
 ghost use lib.ListN.{length};
 ghost use Rattle.text.specs.Written.{WrittenAt};
 ghost use Rattle.layout.specs.Drawing.{samePoint};
-ghost use Rattle.writer.specs.Lines.{headText, pointText, nextText, threeText, pinText, plainPath, stretchedPath};
+ghost use Rattle.writer.specs.Lines.{headText, pointText, nextText, threeText, pinText, plainPath, stretchedPath, pointsText, wireLine, Drawable, endedLine};
+ghost use Rattle.layout.specs.Tree.{opens as openingLine, track as trackLine, loose as looseLine, closes as closingLine};
+use board::Board;
+use board::Net;
+use board::Row;
+use board::Shape;
+use board::Track;
 use keywords::Vocabulary;
 use layout::Point;
 
@@ -105,4 +111,94 @@ fn put_stretched(
     let d = put_three(out, b, p3, p4, p5, p6);
     let p7 = Point { column: w, row: r };
     put_next(out, d, p6, p7)
+}
+
+// Writes the points of a placement of a net on a track.
+fn put_points(
+    out: &mut [u8],
+    at: usize,
+    board: Board,
+    track: Track,
+    net: Net,
+    shape: Shape,
+    top: Row,
+) -> usize
+    requires { ⌜ Drawable board track net shape top ⌝ }
+    requires { ⌜ at + length (pointsText board track net shape top) ≤ length (now out) ⌝ }
+    ensures { λ e. ⌜ WrittenAt at (pointsText board track net shape top) (now (out .entry)) (now (out .exit)) e ⌝ }
+{
+    let w = board::width(board);
+    let c = 2 * track.0 - 1;
+    let l = net.left.0;
+    let r = net.right.0;
+    let u = top.0;
+    match shape {
+        Shape::Plain => put_plain(out, at, c, w, l, r),
+        Shape::Stretched(e) => {
+            let v = u + board::span(net) + e;
+            if l < r {
+                put_stretched(out, at, c, w, l, r, u, v)
+            } else {
+                put_stretched(out, at, c, w, l, r, v, u)
+            }
+        }
+    }
+}
+
+// Writes the line of a wire.
+pub fn put_wire(
+    out: &mut [u8],
+    at: usize,
+    board: Board,
+    track: Track,
+    net: Net,
+    shape: Shape,
+    top: Row,
+) -> usize
+    requires { ⌜ Drawable board track net shape top ⌝ }
+    requires { ⌜ at + length (wireLine board track net shape top) ≤ length (now out) ⌝ }
+    ensures { λ e. ⌜ WrittenAt at (wireLine board track net shape top) (now (out .entry)) (now (out .exit)) e ⌝ }
+{
+    let number = net.number;
+    let a = put_head(out, at, 2, number);
+    let b = put_points(out, a, board, track, net, shape, top);
+    text::put_bytes_at(out, b, b")\n")
+}
+
+// Writes the line of a track: its number and its sum.
+pub fn put_track(out: &mut [u8], at: usize, track: Track, sum: usize) -> usize
+    requires { ⌜ at + length (endedLine (trackLine (track .0) sum)) ≤ length (now out) ⌝ }
+    ensures { λ e. ⌜ WrittenAt at (endedLine (trackLine (track .0) sum)) (now (out .entry)) (now (out .exit)) e ⌝ }
+{
+    let t = track.0;
+    let a = put_head(out, at, 1, t);
+    let b = text::put_spaced(out, a, sum);
+    text::put_bytes_at(out, b, b")\n")
+}
+
+// Writes the line of a loose net.
+pub fn put_loose(out: &mut [u8], at: usize, number: usize) -> usize
+    requires { ⌜ at + length (endedLine (looseLine number)) ≤ length (now out) ⌝ }
+    ensures { λ e. ⌜ WrittenAt at (endedLine (looseLine number)) (now (out .entry)) (now (out .exit)) e ⌝ }
+{
+    let a = put_head(out, at, 3, number);
+    text::put_bytes_at(out, a, b")\n")
+}
+
+// Writes the first line, "(layout".
+pub fn put_opening(out: &mut [u8], at: usize) -> usize
+    requires { ⌜ at + length (endedLine openingLine) ≤ length (now out) ⌝ }
+    ensures { λ e. ⌜ WrittenAt at (endedLine openingLine) (now (out .entry)) (now (out .exit)) e ⌝ }
+{
+    let a = text::put_bytes_at(out, at, b"(");
+    let b = keywords::put_word_at(out, a, Vocabulary::Layout, 0);
+    text::put_bytes_at(out, b, b"\n")
+}
+
+// Writes the last line, ")".
+pub fn put_closing(out: &mut [u8], at: usize) -> usize
+    requires { ⌜ at + length (endedLine closingLine) ≤ length (now out) ⌝ }
+    ensures { λ e. ⌜ WrittenAt at (endedLine closingLine) (now (out .entry)) (now (out .exit)) e ⌝ }
+{
+    text::put_bytes_at(out, at, b")\n")
 }

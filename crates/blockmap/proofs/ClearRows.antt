@@ -1,26 +1,31 @@
 -- Rows are clear in a map exactly if none of them is set; in the block map of a track, exactly if none of them is blocked, so that a
 -- placement is clear of blocks exactly if its covered rows are clear. Assumes nothing.
-use Prim.Native.Nat.{ℕ, zero, suc, _+_, _-_, _≤_, _<_}
+use Prim.Native.Nat.{ℕ, zero, suc, _+_, _≤_, _<_}
 use mathlib.Core.Path.{_≡_, refl, sym, _∙_}
-use mathlib.Core.Bool.{true, false, true≢false, and-false, _&&_}
+use mathlib.Core.Bool.{true, false, true≢false, and-false}
 use mathlib.Core.List.{List}
 use native.Mathlib.Omega.{arith}
-use lib.Dec.{eqb, leb}
-use borrow.Author.Tests.{le-leb, leb-true, eqb-true, eqb-false}
-use Rattle.lists.proofs.Cases.{by-test, and-split, and-both}
+use lib.Dec.{eqb}
+use borrow.Author.Tests.{eqb-true, eqb-false}
+use Rattle.lists.proofs.Cases.{by-test}
 use Rattle.board.specs.Job.{Job, blocked}
 use Rattle.board.specs.Placement.{Placement, Clear, covered, bottom}
 use Rattle.blockmap.specs.Bits.{isSet, MapOf}
-use Rattle.blockmap.specs.Clear.{clearRows, isTop}
+use Rattle.blockmap.specs.Clear.{clearRows}
+
+-- the rows from `top` to before `end` are clear
+abbrev pub ClearFrom : List ℕ → ℕ → ℕ → Type 0
+ClearFrom words top end = (row : ℕ) → top ≤ row → row < end → isSet words row ≡ false
+
+pub clear-none : (words : List ℕ) (top : ℕ) → ClearFrom words top top
+clear-none words top row a b = absurd (omega arith)
 
 -- one clear row more
-pub clear-more : (words : List ℕ) (top row : ℕ) → top ≤ row → clearRows words top (row - top) ≡ true → isSet words row ≡ false
-    → clearRows words top (row + 1 - top) ≡ true
-unfolding clearRows
-clear-more words top row h c f =
-    let e : row + 1 - top ≡ suc (row - top) = omega arith in
-    let at : top + (row - top) ≡ row = omega arith in
-    rw (e, c, at, f)
+pub clear-more : (words : List ℕ) (top row : ℕ) → ClearFrom words top row → isSet words row ≡ false → ClearFrom words top (row + 1)
+clear-more words top row c f k a b =
+    by-test (eqb k row)
+    (λ t. rw (eqb-true k row t) f)
+    (λ t. let d : k ≡ row → ⊥ = eqb-false k row t in c k a (omega arith))
 
 -- a row that is set spoils every placement that covers it
 pub blocked-in : (words : List ℕ) (top m row : ℕ) → top ≤ row → row < top + m → isSet words row ≡ true → clearRows words top m ≡ false
@@ -49,22 +54,6 @@ unfolding clearRows
 clear-of words top zero f = refl
 clear-of words top (suc m) f =
     rw (clear-of words top m (λ row h l. f row h (omega arith)), f (top + m) (omega arith) (omega arith))
-
--- the parts of the test of a top row, and back
-pub top-parts : (words : List ℕ) (first last m top : ℕ) → isTop words first last m top ≡ true
-    → (first ≤ top) × (top ≤ last) × (clearRows words top m ≡ true)
-unfolding isTop
-top-parts words first last m top h =
-    let s = and-split (leb first top && leb top last) (clearRows words top m) h in
-    let r = and-split (leb first top) (leb top last) (s .0) in
-    (leb-true first top (r .0), leb-true top last (r .1), s .1)
-
-pub top-of : (words : List ℕ) (first last m top : ℕ) → first ≤ top → top ≤ last → clearRows words top m ≡ true
-    → isTop words first last m top ≡ true
-unfolding isTop
-top-of words first last m top f l c =
-    and-both (leb first top && leb top last) (clearRows words top m)
-    (and-both (leb first top) (leb top last) (le-leb first top f) (le-leb top last l)) c
 
 module _ (job : Job) (t : ℕ) (words : List ℕ) (map : MapOf job t words) where
   -- of rows of the board

@@ -1,77 +1,80 @@
--- The search for tops marks exactly the top rows that are clear. Assumes nothing.
+-- The flags of tops: one more top, each byte afterwards, and the length. Assumes nothing.
 use Prim.Native.Nat.{ℕ, zero, suc, _+_, _-_, _≤_, _<_}
-use mathlib.Core.Path.{_≡_, refl, sym, _∙_}
-use mathlib.Core.Bool.{Bool, true, false, not, _&&_, and-false, and-true}
+use mathlib.Core.Path.{_≡_, refl, _∙_}
+use mathlib.Core.Bool.{Bool}
 use mathlib.Core.List.{List}
 use native.Mathlib.Omega.{arith}
-use lib.ListN.{getD, set, length, replicate}
-use lib.Seq.{getD-set-same, getD-set-other}
-use lib.Dec.{eqb, leb, ltb}
-use borrow.Author.Tests.{lt-ltb, le-ltb, le-leb, lt-leb, ltb-true, ltb-false, leb-true, eqb-true, eqb-false}
+use lib.ListN.{getD, set, length, length-set}
+use lib.Seq.{getD-set-same, getD-set-other, set-set}
+use lib.Dec.{eqb}
+use borrow.Author.Tests.{eqb-true, eqb-false}
 use Rattle.lists.proofs.Cases.{by-test}
-use Rattle.blockmap.specs.Clear.{clearRows, isTop}
+use Rattle.blockmap.specs.Clear.{flag, flagTops}
 
-none-flagged : (size k : ℕ) → getD (replicate size false) k false ≡ false
-none-flagged zero k = refl
-none-flagged (suc size) zero = refl
-none-flagged (suc size) (suc k) = none-flagged size k
+module _ (test : ℕ → Bool) (first : ℕ) where
+  pub flags-length : (k : ℕ) (flags : List ℕ) → length (flagTops test first k flags) ≡ length flags
+  unfolding flagTops
+  flags-length zero flags = refl
+  flags-length (suc k) flags = rw length-set (flags-length k flags)
 
--- another row than n
-lt-other : (k n : ℕ) → (k ≡ n → ⊥) → ltb k (n + 1) ≡ ltb k n
-lt-other k n d =
-    by-test (ltb k n)
-    (λ t. let l : k < n = ltb-true k n t in rw (t, lt-ltb k (n + 1) (omega arith)))
-    (λ t. let l : n ≤ k = ltb-false k n t in rw (t, le-ltb k (n + 1) (omega arith)))
+  -- before the first top
+  pub flags-none : (flags : List ℕ) → flags ≡ flagTops test first (first - first) flags
+  unfolding flagTops
+  flags-none flags =
+      let e : first - first ≡ 0 = omega arith in
+      rw e
 
-module _ (words : List ℕ) (first last m : ℕ) where
-  -- the flags of the rows before n are right, the others are not set
-  abbrev pub Marked : List Bool → ℕ → Type 0
-  Marked flags n = (k : ℕ) → 1 ≤ k → getD flags (k - 1) false ≡ (isTop words first last m k && ltb k n)
+  -- one more top, after its byte is written
+  pub flags-more : (flags now : List ℕ) (top : ℕ) (b : Bool) → first ≤ top → now ≡ flagTops test first (top - first) flags → test top ≡ b
+      → set now (top - 1) (flag b) ≡ flagTops test first (top + 1 - first) flags
+  unfolding flagTops
+  flags-more flags now top b h e t =
+      let n : top + 1 - first ≡ suc (top - first) = omega arith in
+      let at : first + (top - first) ≡ top = omega arith in
+      rw (n, at, e, t)
 
-  none-before : (k : ℕ) → (isTop words first last m k && ltb k first) ≡ false
-  unfolding isTop
-  none-before k =
-      by-test (leb first k)
-      (λ t. rw (le-ltb k first (leb-true first k t)) (and-false (leb first k && leb k last && clearRows words k m)))
-      (λ t. rw t)
+  -- the same where the byte was 0 before
+  pub flags-again : (flags now : List ℕ) (top : ℕ) (b : Bool) → first ≤ top → now ≡ flagTops test first (top - first) flags → test top ≡ b
+      → set (set now (top - 1) 0) (top - 1) (flag b) ≡ flagTops test first (top + 1 - first) flags
+  flags-again flags now top b h e t = set-set now (top - 1) 0 (flag b) ∙ flags-more flags now top b h e t
 
-  pub none-marked : (size : ℕ) → Marked (replicate size false) first
-  none-marked size k h = none-flagged size (k - 1) ∙ sym (none-before k)
+  -- after the last top
+  pub flags-all : (flags now : List ℕ) (last end top : ℕ) → now ≡ flagTops test first (top - first) flags → end ≤ top → top ≤ end → end ≡ last + 1
+      → now ≡ flagTops test first (last + 1 - first) flags
+  flags-all flags now last end top e a b l =
+      let t : top ≡ last + 1 = omega arith in
+      rw t at e
 
-  top-here : (n : ℕ) → first ≤ n → n ≤ last → isTop words first last m n ≡ clearRows words n m
-  unfolding isTop
-  top-here n f l = rw (le-leb first n f, le-leb n last l)
-
-  -- a top row that is given up
-  pub given-up : (flags : List Bool) (n : ℕ) → 1 ≤ n → first ≤ n → n ≤ last → Marked flags n → clearRows words n m ≡ false → Marked flags (n + 1)
-  given-up flags n o f l p c k h =
-      by-test (eqb k n)
+  -- the byte of a top
+  pub flags-at : (k : ℕ) (flags : List ℕ) (top : ℕ) → 1 ≤ first → first ≤ top → top < first + k → first + k ≤ length flags + 1
+      → getD (flagTops test first k flags) (top - 1) 0 ≡ flag (test top)
+  unfolding flagTops
+  flags-at zero flags top o a b l = absurd (omega arith)
+  flags-at (suc k) flags top o a b l =
+      by-test (eqb top (first + k))
       (λ t.
-      let e : k ≡ n = eqb-true k n t in
-      let was : getD flags (n - 1) false ≡ false = p n o ∙ rw (le-ltb n n (omega arith)) (and-false (isTop words first last m n)) in
-      rw (e, top-here n f l, c) was)
-      (λ t. rw (lt-other k n (eqb-false k n t)) (p k h))
-
-  -- a top row that is clear
-  pub marked : (flags : List Bool) (n : ℕ) → 1 ≤ n → first ≤ n → n ≤ last → n - 1 < length flags → Marked flags n → clearRows words n m ≡ true
-      → Marked (set flags (n - 1) true) (n + 1)
-  marked flags n o f l s p c k h =
-      by-test (eqb k n)
+      let e : top ≡ first + k = eqb-true top (first + k) t in
+      let s : first + k - 1 < length (flagTops test first k flags) = omega (arith, flags-length k flags) in
+      rw e (getD-set-same (flagTops test first k flags) (first + k - 1) (flag (test (first + k))) 0 s))
       (λ t.
-      let e : k ≡ n = eqb-true k n t in
-      rw (e, top-here n f l, c, lt-ltb n (n + 1) (omega arith)) (getD-set-same flags (n - 1) true false s))
-      (λ t.
-      let d : k ≡ n → ⊥ = eqb-false k n t in
-      let d′ : k - 1 ≡ n - 1 → ⊥ = λ q. d (omega arith) in
-      rw (lt-other k n d) (getD-set-other flags (n - 1) (k - 1) true false d′ ∙ p k h))
+      let d : top ≡ first + k → ⊥ = eqb-false top (first + k) t in
+      let d′ : top - 1 ≡ first + k - 1 → ⊥ = λ q. d (omega arith) in
+      getD-set-other (flagTops test first k flags) (first + k - 1) (top - 1) (flag (test (first + k))) 0 d′
+      ∙ flags-at k flags top o a (omega arith) (omega arith))
 
-  none-after : (k : ℕ) → last < k → isTop words first last m k ≡ false
-  unfolding isTop
-  none-after k h = rw (lt-leb k last h, and-false (leb first k))
+  -- every other byte
+  pub flags-other : (k : ℕ) (flags : List ℕ) (i : ℕ) → 1 ≤ first → ((top : ℕ) → first ≤ top → top < first + k → i ≡ top - 1 → ⊥)
+      → getD (flagTops test first k flags) i 0 ≡ getD flags i 0
+  unfolding flagTops
+  flags-other zero flags i o n = refl
+  flags-other (suc k) flags i o n =
+      getD-set-other (flagTops test first k flags) (first + k - 1) i (flag (test (first + k))) 0 (n (first + k) (omega arith) (omega arith))
+      ∙ flags-other k flags i o (λ top a b. n top a (omega arith))
 
-  -- past the last top row every flag is right
-  pub all-marked : (flags : List Bool) (n : ℕ) → last < n → Marked flags n → (k : ℕ) → 1 ≤ k → getD flags (k - 1) false ≡ isTop words first last m k
-  all-marked flags n l p k h =
-      p k h ∙ by-test (ltb k n)
-      (λ t. rw t (and-true (isTop words first last m k)))
-      (λ t. let a : n ≤ k = ltb-false k n t in rw (none-after k (omega arith)))
+-- tests that agree on the tops give the same flags
+pub flags-same : (f g : ℕ → Bool) (first k : ℕ) (flags : List ℕ) → ((top : ℕ) → first ≤ top → top < first + k → f top ≡ g top)
+    → flagTops f first k flags ≡ flagTops g first k flags
+unfolding flagTops
+flags-same f g first zero flags h = refl
+flags-same f g first (suc k) flags h =
+    rw (flags-same f g first k flags (λ top a b. h top a (omega arith)), h (first + k) (omega arith) (omega arith))

@@ -1,8 +1,8 @@
--- Document 01, "Length, stretch and needed rows": the top rows whose covered rows have no blocked row.
-use Prim.Native.Nat.{ℕ, zero, suc, _+_}
-use mathlib.Core.Bool.{Bool, true, not, _&&_}
+-- Document 01, "Length, stretch and needed rows": the top rows whose covered rows have no blocked row, as flags in a buffer.
+use Prim.Native.Nat.{ℕ, zero, suc, _+_, _-_}
+use mathlib.Core.Bool.{Bool, true, false, not, _&&_}
 use mathlib.Core.List.{List}
-use lib.Dec.{leb}
+use lib.ListN.{set}
 use Rattle.blockmap.specs.Bits.{isSet}
 
 -- none of the m rows from `top` on is blocked
@@ -10,6 +10,12 @@ unfoldable pub clearRows : List ℕ → ℕ → ℕ → Bool
 clearRows words top zero = true
 clearRows words top (suc m) = clearRows words top m && not (isSet words (top + m))
 
--- a top row from `first` to `last` whose m rows are clear
-unfoldable pub isTop : List ℕ → ℕ → ℕ → ℕ → ℕ → Bool
-isTop words first last m top = leb first top && leb top last && clearRows words top m
+-- a test as a byte
+abbrev pub flag : Bool → ℕ
+flag true = 1
+flag false = 0
+
+-- the flags after the test of the k tops from `first` on: byte top − 1 is that of the test, every other byte is as it was
+unfoldable pub flagTops : (ℕ → Bool) → ℕ → ℕ → List ℕ → List ℕ
+flagTops test first zero flags = flags
+flagTops test first (suc k) flags = set (flagTops test first k flags) (first + k - 1) (flag (test (first + k)))

@@ -1,12 +1,12 @@
 // The blocked rows of a track, one bit a row, and the top rows at which a placement is clear of them.
 ghost use mathlib.Core.Path.{_≡_};
-ghost use mathlib.Core.Bool.{_&&_, _||_, false};
+ghost use mathlib.Core.Bool.{_&&_, _||_, true, false};
 ghost use Prim.Native.Nat.{ℕ, _+_, _-_, _≤_};
 ghost use lib.Dec.{eqb, leb};
-ghost use lib.ListN.{getD, replicate};
+ghost use lib.ListN.{length, replicate};
 ghost use Rattle.board.specs.Job.{closes};
 ghost use Rattle.blockmap.specs.Bits.{isSet};
-ghost use Rattle.blockmap.specs.Clear.{isTop};
+ghost use Rattle.blockmap.specs.Clear.{clearRows, flagTops};
 use board::Block;
 use board::Row;
 use board::Track;
@@ -14,11 +14,6 @@ use board::Track;
 // The blocked rows of one track: one bit a row, 64 rows to a word. Shift and mask set and test a row's bit, whose index is row − 1.
 pub struct BlockMap {
     pub words: [u64; 16],
-}
-
-// For each row, at index row − 1, whether it is a top row clear of blocks.
-pub struct Tops {
-    pub clear: [bool; 1024],
 }
 
 // No row is blocked.
@@ -80,24 +75,41 @@ pub fn with_block_on(map: BlockMap, track: Track, block: Block) -> BlockMap
     map
 }
 
-// The top rows from `first` to `last` whose `rows` rows are clear. Nested loops over tops and covered rows: a top row is given up as
-// soon as one blocked row is met, by a labelled continue that leaves the inner scan for the next top.
-pub fn clear_tops(map: BlockMap, first: Row, last: Row, rows: usize) -> Tops
-    requires { ⌜ (1 ≤ first .0) × (1 ≤ rows) × (last .0 + rows ≤ 1025) ⌝ }
-    ensures { λ r. ⌜ ((top : ℕ) → 1 ≤ top → getD (r .clear) (top - 1) false ≡ isTop (map .words) (first .0) (last .0) rows top) ⌝ }
+// Flags the top rows from `first` to `last`: byte top − 1 becomes 1 if the `rows` rows from there on are clear, otherwise 0. Nested loops
+// over tops and covered rows: a top row is given up as soon as one blocked row is met, by a labelled continue that leaves the inner scan
+// for the next top. `known` is the first row not known to be clear, so that no scan looks at a clear row again.
+pub fn clear_tops(map: BlockMap, first: Row, last: Row, rows: usize, flags: &mut [u8])
+    requires { ⌜ (1 ≤ first .0) × (first .0 ≤ last .0) × (last .0 + rows ≤ 1025) × (last .0 ≤ length (now flags)) ⌝ }
+    ensures { λ r. ⌜ now (flags .exit) ≡ flagTops (λ top. clearRows (map .words) top rows) (first .0) (last .0 + 1 - first .0) (now (flags .entry)) ⌝ }
 {
-    let mut clear = [false; 1024];
     let start = first.0;
     let stop = last.0 + 1;
+    let mut known = start;
     'tops: for top in start..stop {
         let index = top - 1;
         let end = top + rows;
-        for row in top..end {
+        flags[index] = 0;
+        let from = if known < top { top } else { known };
+        for row in from..end {
             if is_blocked(map, Row(row)) {
+                known = row;
                 continue 'tops;
             }
         }
-        clear[index] = true;
+        known = end;
+        flags[index] = 1;
     }
-    Tops { clear }
+}
+
+// The same on a track without blocks, where no row is scanned: every top row from `first` to `last` is clear.
+pub fn all_tops(first: Row, last: Row, flags: &mut [u8])
+    requires { ⌜ (1 ≤ first .0) × (first .0 ≤ last .0) × (last .0 ≤ 1024) × (last .0 ≤ length (now flags)) ⌝ }
+    ensures { λ r. ⌜ now (flags .exit) ≡ flagTops (λ top. true) (first .0) (last .0 + 1 - first .0) (now (flags .entry)) ⌝ }
+{
+    let start = first.0;
+    let stop = last.0 + 1;
+    for top in start..stop {
+        let index = top - 1;
+        flags[index] = 1;
+    }
 }

@@ -1,37 +1,43 @@
--- `blockmap::clear_tops` meets its contract: before each turn of the outer loop the flags of the tops tried are right and no other is set; before each turn of the
--- inner one the rows from the top to before the current one are clear. Assumes nothing.
+-- `blockmap::clear_tops` meets its contract: before each turn of the outer loop the bytes of the tops tried are right, every other is as it was, and the rows from the
+-- top to before `known` are clear; before each turn of the inner one the rows from the top to before the current one are clear. Assumes nothing.
+use Prim.Native.Nat.{ℕ, _≤_, _+_, _-_}
+use mathlib.Core.Logic.{⊎-elim}
+use mathlib.Core.Bool.{Bool, true, false}
+use mathlib.Core.List.{List}
 use mathlib.Core.Path.{_≡_, refl, sym, _∙_}
-use lib.ListN.{length-set, length}
-use Rattle.blockmap.specs.Bits.{isSet}
-use mathlib.Core.Bool.{true, false}
-use Rattle.blockmap.specs.Clear.{clearRows}
-use Rattle.blockmap.proofs.ClearRows.{clear-more, blocked-in}
-use Rattle.blockmap.proofs.ClearTops.{Marked, none-marked, given-up, marked, all-marked}
-use Prim.Native.Nat.{_≤_, _+_, _-_}
 use native.Mathlib.Omega.{arith}
+use lib.ListN.{length, length-set}
+use Rattle.blockmap.specs.Clear.{clearRows, flagTops}
+use Rattle.blockmap.specs.Bits.{isSet}
+use Rattle.blockmap.proofs.ClearRows.{ClearFrom, clear-none, clear-more, clear-of, blocked-in}
+use Rattle.blockmap.proofs.ClearTops.{flags-none, flags-more, flags-again, flags-all}
 use borrow.Author.Needs.{needs}
 use Rattle.blockmap.proofs.clear_tops.Statement.{statement}
 use Rattle.blockmap.proofs.clear_tops.Tie as tie
 
+-- the top is clear
+abbrev Test : List ℕ → ℕ → ℕ → Bool
+Test words rows top = clearRows words top rows
+
 abbrev Inv-loop : tie.InvT-loop
-Inv-loop map rows clear start stop top₀ index end row₀ top row = (top ≡ top₀) × (top ≤ row) × (row ≤ end) × (clearRows (map .words) top (row - top) ≡ true)
+Inv-loop map rows flags start stop known₀ top₀ index end from row₀ known top row = (known ≡ known₀) × (top ≡ top₀) × (top ≤ row) × (row ≤ end) × ClearFrom (map .words) top row
 
 abbrev μ-loop : tie.MeasureT-loop
-μ-loop map rows clear start stop top₀ index end row₀ top row = end - row
+μ-loop map rows flags start stop known₀ top₀ index end from row₀ known top row = end - row
 
 abbrev Inv-tops : tie.InvT-tops
-Inv-tops map rows clear₀ start stop top₀ clear top = (length clear ≡ 1024) × (start ≤ top) × Marked (map .words) start (stop - 1) rows clear top
+Inv-tops map rows flags₀ start stop known₀ top₀ flags known top = (start ≤ top) × (top ≤ stop) × (length flags ≡ length flags₀) × (flags ≡ flagTops (Test (map .words) rows) start (top - start) flags₀) × (known ≤ top + rows) × ClearFrom (map .words) top known
 
 abbrev μ-tops : tie.MeasureT-tops
-μ-tops map rows clear₀ start stop top₀ clear top = stop - top
+μ-tops map rows flags₀ start stop known₀ top₀ flags known top = stop - top
 
 add-stop : tie.Need-add-stop Inv-loop μ-loop Inv-tops μ-tops
 add-stop c = search needs
 
 tops-holds : tie.Need-tops-holds Inv-loop μ-loop Inv-tops μ-tops
 tops-holds c =
-    let a = c .before .args in
-    (refl, omega arith, none-marked (a .map .words) (a .first .0) (a .last .0 + 1 - 1) (a .rows) 1024)
+    let a = c .before .before .args in
+    (omega arith, omega arith, refl, flags-none (Test (a .map .words) (a .rows)) (a .first .0) (a .flags .now), omega arith, clear-none (a .map .words) (a .first .0))
 
 sub-index : tie.Need-sub-index Inv-loop μ-loop Inv-tops μ-tops
 sub-index c = search needs
@@ -39,12 +45,17 @@ sub-index c = search needs
 add-end : tie.Need-add-end Inv-loop μ-loop Inv-tops μ-tops
 add-end c = search needs
 
+slice-write-flags : tie.Need-slice-write-flags Inv-loop μ-loop Inv-tops μ-tops
+slice-write-flags c = search needs
+
 loop-holds : tie.Need-loop-holds Inv-loop μ-loop Inv-tops μ-tops
-unfolding clearRows
 loop-holds c =
-    let top = c .before .tops .top in
-    let e : top - top ≡ 0 = omega arith in
-    (refl, omega arith, omega arith, rw e)
+    let a = c .before .before .before .before .before .args in
+    let t = c .before .before .tops in
+    ⊎-elim
+    (λ w. (refl, refl, omega arith, omega arith, λ row h k. absurd (omega arith)))
+    (λ w. (refl, refl, omega arith, omega arith, λ row h k. t .inv .5 row h (omega arith)))
+    (c .if1 .came)
 
 is-blocked-requires : tie.Need-is-blocked-requires Inv-loop μ-loop Inv-tops μ-tops
 is-blocked-requires c κs = search needs
@@ -57,17 +68,19 @@ tops-less c = search needs
 
 tops-again : tie.Need-tops-again Inv-loop μ-loop Inv-tops μ-tops
 tops-again c =
-    let a = c .before .before .before .before .before .before .before .args in
-    let t = c .before .before .before .before .before .tops in
+    let a = c .before .before .before .before .before .before .before .before .before .args in
+    let t = c .before .before .before .before .before .before .tops in
     let l = c .before .before .before .loop in
-    let e : l .top ≡ t .top = l .inv .0 in
-    let met : isSet (a .map .words) (l .row) ≡ true = sym (c .before .is-blocked .ensures) ∙ c .if1 .taken in
+    let e : l .top ≡ t .top = l .inv .1 in
+    let met : isSet (a .map .words) (l .row) ≡ true = sym (c .before .is-blocked .ensures) ∙ c .if2 .taken in
     let spoilt : clearRows (a .map .words) (t .top) (a .rows) ≡ false =
     blocked-in (a .map .words) (t .top) (a .rows) (l .row) (omega arith) (omega arith) met in (
-      t .inv .0,
       omega arith,
-      rw e
-          (given-up (a .map .words) (a .first .0) (a .last .0 + 1 - 1) (a .rows) (t .clear) (t .top) (omega arith) (omega arith) (omega arith) (t .inv .2) spoilt),
+      omega arith,
+      search needs,
+      rw e (flags-more (Test (a .map .words) (a .rows)) (a .first .0) (a .flags .now) (t .flags) (t .top) false (omega arith) (t .inv .3) spoilt),
+      omega arith,
+      λ row h k. l .inv .4 row (omega arith) k,
     )
 
 add-row : tie.Need-add-row Inv-loop μ-loop Inv-tops μ-tops
@@ -78,13 +91,15 @@ loop-less c = search needs
 
 loop-again : tie.Need-loop-again Inv-loop μ-loop Inv-tops μ-tops
 loop-again c =
-    let a = c .before .before .before .before .before .before .before .args in
-    let l = c .before .before .before .loop in
-    let free : isSet (a .map .words) (l .row) ≡ false = sym (c .before .is-blocked .ensures) ∙ c .if1 .left in
-    (l .inv .0, omega arith, omega arith, clear-more (a .map .words) (l .top) (l .row) (omega arith) (l .inv .3) free)
+    let a = c .before .before .before .before .before .before .before .before .before .before .args in
+    let l = c .before .before .before .before .loop in
+    let free : isSet (a .map .words) (l .row) ≡ false = sym (c .before .before .is-blocked .ensures) ∙ c .before .if2 .left in
+    (l .inv .0, l .inv .1, omega arith, omega arith, clear-more (a .map .words) (l .top) (l .row) (l .inv .4) free)
 
-array-write-clear : tie.Need-array-write-clear Inv-loop μ-loop Inv-tops μ-tops
-array-write-clear c = search needs
+slice-write-flags-2 : tie.Need-slice-write-flags-2 Inv-loop μ-loop Inv-tops μ-tops
+slice-write-flags-2 c =
+    let t = c .before .before .before .before .tops in
+    omega (arith, length-set (t .flags) (t .top - 1) 0)
 
 add-top-2 : tie.Need-add-top-2 Inv-loop μ-loop Inv-tops μ-tops
 add-top-2 c = search needs
@@ -94,24 +109,28 @@ tops-less-2 c = search needs
 
 tops-again-2 : tie.Need-tops-again-2 Inv-loop μ-loop Inv-tops μ-tops
 tops-again-2 c =
-    let a = c .before .before .before .before .before .args in
-    let t = c .before .before .before .tops in
+    let a = c .before .before .before .before .before .before .before .args in
+    let t = c .before .before .before .before .tops in
     let l = c .before .loop in
-    let e : l .top ≡ t .top = l .inv .0 in
-    let all : l .row - l .top ≡ a .rows = omega arith in
-    let clear : clearRows (a .map .words) (t .top) (a .rows) ≡ true = rw (all, e) at (l .inv .3) in (
-      rw length-set (t .inv .0),
+    let e : l .top ≡ t .top = l .inv .1 in
+    let clear : clearRows (a .map .words) (t .top) (a .rows) ≡ true =
+    clear-of (a .map .words) (t .top) (a .rows) (λ row h k. l .inv .4 row (omega arith) (omega arith)) in (
       omega arith,
-      rw e
-          (marked (a .map .words) (a .first .0) (a .last .0 + 1 - 1) (a .rows) (t .clear) (t .top) (omega arith) (omega arith) (omega arith) (omega arith) (t .inv .2) clear),
+      omega arith,
+      search needs,
+      rw e (flags-again (Test (a .map .words) (a .rows)) (a .first .0) (a .flags .now) (t .flags) (t .top) true (omega arith) (t .inv .3) clear),
+      omega arith,
+      λ row h k. l .inv .4 row (omega arith) (omega arith),
     )
+
+same-length : tie.Need-same-length Inv-loop μ-loop Inv-tops μ-tops
+same-length c = search needs
 
 returns : tie.Need-returns Inv-loop μ-loop Inv-tops μ-tops
 returns c =
-    let a = c .before .before .before .args in
+    let a = c .before .before .before .before .args in
     let t = c .before .tops in
-    let e : a .last .0 + 1 - 1 ≡ a .last .0 = omega arith in
-    all-marked (a .map .words) (a .first .0) (a .last .0) (a .rows) (t .clear) (t .top) (omega arith) (rw e at (t .inv .2))
+    flags-all (Test (a .map .words) (a .rows)) (a .first .0) (a .flags .now) (t .flags) (a .last .0) (a .last .0 + 1) (t .top) (t .inv .3) (omega arith) (omega arith) refl
 
 pub clear-tops-spec : {M : Type 1} → statement M
 clear-tops-spec =
@@ -125,6 +144,7 @@ clear-tops-spec =
     tops-holds
     sub-index
     add-end
+    slice-write-flags
     loop-holds
     is-blocked-requires
     add-top
@@ -133,8 +153,9 @@ clear-tops-spec =
     add-row
     loop-less
     loop-again
-    array-write-clear
+    slice-write-flags-2
     add-top-2
     tops-less-2
     tops-again-2
+    same-length
     returns)

@@ -2,14 +2,18 @@
 use Prim.Native.Nat.{ℕ, suc, _+_, _*_, _-_, _≤_, _<_}
 use mathlib.Core.Path.{_≡_}
 use mathlib.Core.Bool.{Bool, true, false, cond}
-use mathlib.Core.List.{List, [], _∷_}
-use lib.ListN.{length, getD}
+use mathlib.Core.List.{List, [], _∷_, _++_, map}
+use lib.ListN.{length, getD, take, drop}
+use Rattle.board.specs.declared.Board.{Board}
 use Rattle.board.specs.declared.Net.{Net}
 use Rattle.board.specs.Length.{shortest, needed, worth}
 use Rattle.board.specs.Job.{Job}
 use Rattle.board.specs.Placement.{firstTop, lastTop}
-use Rattle.board.specs.Tests.{isEligible, clearRows}
+use Rattle.packing.specs.Fits.{isEligible, clearRows}
+pub use Rattle.blockmap.specs.Clear.{flag}
+use Rattle.blockmap.specs.Clear.{flagTops}
 use Rattle.candidates.specs.declared.Candidates.{Candidates}
+use Rattle.candidates.specs.Placed.{padded, Placed, placedNumbers}
 
 -- the eligible nets among ns, the first of which has index i
 pub record Candidate : Type 0 where
@@ -23,11 +27,6 @@ candidatesFrom job earlier i (n ∷ ns) =
 
 unfoldable pub candidatesOf : Job → List ℕ → List Candidate
 candidatesOf job earlier = candidatesFrom job earlier 0 (job .nets)
-
--- a test as a byte
-abbrev pub flag : Bool → ℕ
-flag true = 1
-flag false = 0
 
 -- slot i of the arrays holds candidate x; byte i * 1024 + (top − 1) of the flags tells whether the candidate is clear of blocks at
 -- each of its tops
@@ -49,3 +48,38 @@ Slots job t c flags i (x ∷ xs) = Slot job t c flags i x × Slots job t c flags
 pub record Gathered (job : Job) (earlier : List ℕ) (t : ℕ) (c : Candidates) (flags : List ℕ) : Type 0 where
   pub count-is : c .count ≡ length (candidatesOf job earlier)
   pub slots : Slots job t c flags 0 (candidatesOf job earlier)
+
+-- the arrays that hold the candidates xs, with 0 in every slot behind them
+unfoldable pub arraysOf : Board → List Candidate → Candidates
+arraysOf board xs =
+    record {
+      count = length xs;
+      net = padded 0 (map (λ x. x .index) xs);
+      need = padded 0 (map (λ x. needed board (x .net)) xs);
+      worth = padded 0 (map (λ x. worth board (x .net)) xs);
+      first = padded 0 (map (λ x. firstTop (x .net) (shortest board (x .net))) xs);
+      last = padded 0 (map (λ x. lastTop board (x .net) (shortest board (x .net))) xs);
+    }
+
+-- the bytes with f done to the 1,024 of part i, every other as it was
+unfoldable pub onPart : ℕ → (List ℕ → List ℕ) → List ℕ → List ℕ
+onPart i f bytes = take (i * 1024) bytes ++ (f (take 1024 (drop (i * 1024) bytes)) ++ drop 1024 (drop (i * 1024) bytes))
+
+-- the flags with those of the tops of candidate x in part i
+unfoldable pub flagSlot : Job → ℕ → ℕ → Candidate → List ℕ → List ℕ
+flagSlot job t i x =
+    let n = x .net in
+    let s = shortest (job .board) n in
+    onPart i (flagTops (λ top. clearRows job t top (needed (job .board) n)) (firstTop n s) (lastTop (job .board) n s + 1 - firstTop n s))
+
+-- the flags with those of the candidates xs in the parts from i on
+unfoldable pub flagSlots : Job → ℕ → ℕ → List Candidate → List ℕ → List ℕ
+flagSlots job t i [] bytes = bytes
+flagSlots job t i (x ∷ xs) bytes = flagSlots job t (suc i) xs (flagSlot job t i x bytes)
+
+-- what `gather` gives of the flags `before`, where placed[k] is the track of net k: arrays and flags, every slot and every byte of
+-- them, and so the candidates for every list of the nets placed
+pub record GatheredFrom (job : Job) (placed : List ℕ) (t : ℕ) (before : List ℕ) (c : Candidates) (after : List ℕ) : Type 0 where
+  pub arrays : c ≡ arraysOf (job .board) (candidatesOf job (placedNumbers job placed))
+  pub bytes : after ≡ flagSlots job t 0 (candidatesOf job (placedNumbers job placed)) before
+  pub gathered : (earlier : List ℕ) → Placed job placed earlier → Gathered job earlier t c after

@@ -1,0 +1,9 @@
+-- The laws of the definitions in specs/.
+pub mod Prefixes
+pub mod TrackBlocks
+pub mod FlagParts
+pub mod NetBefore
+pub mod Eligible
+pub mod Slots
+pub mod Gathering
+pub mod StoredJobs

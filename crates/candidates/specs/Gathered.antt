@@ -1,7 +1,7 @@
 -- The candidates for a track in arrays, held against the model: the eligible nets of the job, in their order.
-use Prim.Native.Nat.{ℕ, suc, _+_, _*_, _-_, _≤_, _<_}
+use Prim.Native.Nat.{ℕ, suc, _+_, _*_, _-_, _≤_}
 use mathlib.Core.Path.{_≡_}
-use mathlib.Core.Bool.{Bool, true, false, cond}
+use mathlib.Core.Bool.{cond}
 use mathlib.Core.List.{List, [], _∷_, _++_, map}
 use lib.ListN.{length, getD, take, drop}
 use Rattle.board.specs.declared.Board.{Board}
@@ -10,10 +10,11 @@ use Rattle.board.specs.Length.{shortest, needed, worth}
 use Rattle.board.specs.Job.{Job}
 use Rattle.board.specs.Placement.{firstTop, lastTop}
 use Rattle.packing.specs.Fits.{isEligible, clearRows}
-pub use Rattle.blockmap.specs.Clear.{flag}
 use Rattle.blockmap.specs.Clear.{flagTops}
 use Rattle.candidates.specs.declared.Candidates.{Candidates}
+use Rattle.candidates.specs.declared.NetTops.{NetTops}
 use Rattle.candidates.specs.Placed.{padded, Placed, placedNumbers}
+pub use Rattle.blockmap.specs.Clear.{flag}
 
 -- the eligible nets among ns, the first of which has index i
 pub record Candidate : Type 0 where
@@ -48,6 +49,13 @@ Slots job t c flags i (x ∷ xs) = Slot job t c flags i x × Slots job t c flags
 pub record Gathered (job : Job) (earlier : List ℕ) (t : ℕ) (c : Candidates) (flags : List ℕ) : Type 0 where
   pub count-is : c .count ≡ length (candidatesOf job earlier)
   pub slots : Slots job t c flags 0 (candidatesOf job earlier)
+
+-- what the choice needs of net n: its needed rows, what it is worth, and its first and last top row at its shortest length
+pub record TopsOf (board : Board) (n : Net) (r : NetTops) : Type 0 where
+  pub need : r .need ≡ needed board n
+  pub worth-is : r .worth ≡ worth board n
+  pub first : r .first .0 ≡ firstTop n (shortest board n)
+  pub last : r .last .0 ≡ lastTop board n (shortest board n)
 
 -- the arrays that hold the candidates xs, with 0 in every slot behind them
 unfoldable pub arraysOf : Board → List Candidate → Candidates

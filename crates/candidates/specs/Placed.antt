@@ -5,6 +5,7 @@ use mathlib.Core.Bool.{Bool, not, _&&_, _||_, cond}
 use mathlib.Core.List.{List, [], _∷_, _++_, map}
 use lib.ListN.{length, getD, replicate}
 use lib.Dec.{eqb}
+use Rattle.lists.specs.Lists.{anyOf}
 use Rattle.board.specs.declared.Net.{Net}
 use Rattle.board.specs.declared.StoredJob.{StoredJob}
 use Rattle.board.specs.Job.{Job}
@@ -17,6 +18,10 @@ pub record AcceptedStored (s : StoredJob) : Type 0 where
   pub accepted : Accepted (jobOf s)
   pub nets-room : s .nnets ≤ 512
   pub blocks-room : s .nblocks ≤ 256
+
+-- some block is on track t
+unfoldable pub hasBlocks : Job → ℕ → Bool
+hasBlocks job t = anyOf (λ b. eqb (b .track .0) t) (job .blocks)
 
 -- xs in an array of 512, with d in every slot behind them
 unfoldable pub padded : ℕ → List ℕ → List ℕ

@@ -74,6 +74,13 @@ module _ (s : StoredJob) (accepted : AcceptedStored s) (size : length (s .nets) 
   pub net-accepted : AcceptedNet (s .board) (getD (s .nets) i noNet)
   net-accepted = accepted .accepted .nets-each (getD (s .nets) i noNet) net-mem
 
+  -- its pins are on rows
+  pub pin-rows : (1 ≤ getD (s .nets) i noNet .left .0) × (getD (s .nets) i noNet .left .0 ≤ 1024) × (1 ≤ getD (s .nets) i noNet .right .0) × (getD (s .nets) i noNet .right .0 ≤ 1024)
+  pin-rows =
+      let r = net-accepted .in-range in
+      let rows = accepted .accepted .board-range .rows-range in
+      omega arith
+
   -- no net before it has its left row
   lefts-before : Each (λ n. n .left .0 ≡ getD (s .nets) i noNet .left .0 → ⊥) (take i (s .nets))
   lefts-before =
@@ -91,8 +98,7 @@ module _ (s : StoredJob) (accepted : AcceptedStored s) (size : length (s .nets) 
   by-left-more table k p row a b =
       let r = accepted .nets-room in
       let n = getD (s .nets) i noNet in
-      let in-range = net-accepted .in-range in
-      let rows = accepted .accepted .board-range .rows-range in
+      let rows = pin-rows in
       let f : Net → Bool = λ m. eqb (m .left .0) row in
       by-test (eqb (n .left .0) row)
       (λ t.
@@ -126,9 +132,8 @@ module _ (s : StoredJob) (accepted : AcceptedStored s) (size : length (s .nets) 
       → set before i (getD by-left (getD (s .nets) i noNet .right .0 - 1) 0) ≡ padded 512 (map (beforeIn (jobOf s .nets)) (take (i + 1) (s .nets)))
   before-more by-left before p e =
       let r = accepted .nets-room in
-      let rows = accepted .accepted .board-range .rows-range in
       let n = getD (s .nets) i noNet in
-      let in-range = net-accepted .in-range in
+      let rows = pin-rows in
       let found : getD by-left (n .right .0 - 1) 0 ≡ beforeIn (jobOf s .nets) n =
       p (n .right .0) (omega arith) (omega arith) ∙ index-same (λ m. eqb (m .left .0) (n .right .0)) (λ m. isBefore m n) (jobOf s .nets) 0 before-test in
       let l : length (map (beforeIn (jobOf s .nets)) (take i (s .nets))) ≡ i =

@@ -5,7 +5,7 @@ use native.Mathlib.Omega.{arith}
 use lib.ListN.{getD, length, take}
 use Rattle.board.specs.Stored.{noNet}
 use Rattle.candidates.proofs.Prefixes.{length-mapped}
-use Rattle.candidates.proofs.NetBefore.{ByLeft, by-left-none, by-left-more, by-left-all, net-accepted}
+use Rattle.candidates.proofs.NetBefore.{ByLeft, by-left-none, by-left-more, by-left-all, pin-rows}
 use borrow.Author.Needs.{needs}
 use Rattle.candidates.proofs.nets_by_left.Statement.{statement}
 use Rattle.candidates.proofs.nets_by_left.Tie as tie
@@ -19,14 +19,13 @@ abbrev μ-loop : tie.MeasureT-loop
 net-size : (s : tie.Start Inv-loop μ-loop) → length (s .args .t1 .nets) ≡ 512
 net-size s = search (needs, length-mapped)
 
--- the pin of the net at hand is on a row
-on-row : (c : tie.After-struct-known Inv-loop μ-loop) →
-    let n = getD (c .before .before .before .before .args .t1 .nets) (c .before .before .before .loop .i) noNet in (1 ≤ n .left .0) × (n .left .0 ≤ 1024)
-on-row c =
+-- the pins of the net at hand are on rows
+on-rows : (c : tie.After-struct-known Inv-loop μ-loop) →
+    let n = getD (c .before .before .before .before .args .t1 .nets) (c .before .before .before .loop .i) noNet in
+    (1 ≤ n .left .0) × (n .left .0 ≤ 1024) × (1 ≤ n .right .0) × (n .right .0 ≤ 1024)
+on-rows c =
     let s = c .before .before .before .before in
-    let r = net-accepted (s .args .t1) (s .pre) (net-size s) (c .before .before .before .loop .i) (omega arith) .in-range in
-    let h = s .pre .accepted .board-range in
-    omega arith
+    pin-rows (s .args .t1) (s .pre) (net-size s) (c .before .before .before .loop .i) (omega arith)
 
 loop-holds : tie.Need-loop-holds Inv-loop μ-loop
 loop-holds c = (omega arith, refl, by-left-none (c .args .t1 .nets))
@@ -38,13 +37,13 @@ element-copy-out-net : tie.Need-element-copy-out-net Inv-loop μ-loop
 element-copy-out-net c = search needs
 
 sub-at : tie.Need-sub-at Inv-loop μ-loop
-sub-at c = let r = on-row c in omega arith
+sub-at c = let r = on-rows c in omega arith
 
 mul-by-left : tie.Need-mul-by-left Inv-loop μ-loop
-mul-by-left c = let r = on-row c in omega arith
+mul-by-left c = let r = on-rows c in omega arith
 
 array-write-by-left : tie.Need-array-write-by-left Inv-loop μ-loop
-array-write-by-left c = let r = on-row c in omega arith
+array-write-by-left c = let r = on-rows c in omega arith
 
 add-i : tie.Need-add-i Inv-loop μ-loop
 add-i c = search needs

@@ -7,7 +7,7 @@ use lib.ListN.{getD, length, take}
 use Rattle.board.specs.Stored.{noNet, jobOf}
 use Rattle.candidates.specs.Placed.{padded}
 use Rattle.candidates.proofs.Prefixes.{length-mapped}
-use Rattle.candidates.proofs.NetBefore.{beforeIn, before-none, before-more, before-all, net-accepted}
+use Rattle.candidates.proofs.NetBefore.{beforeIn, before-none, before-more, before-all, pin-rows}
 use borrow.Author.Needs.{needs}
 use Rattle.candidates.proofs.preceding.Statement.{statement}
 use Rattle.candidates.proofs.preceding.Tie as tie
@@ -21,14 +21,13 @@ abbrev μ-loop : tie.MeasureT-loop
 net-size : (s : tie.Start Inv-loop μ-loop) → length (s .args .t1 .nets) ≡ 512
 net-size s = search (needs, length-mapped)
 
--- the pin of the net at hand is on a row
-on-row : (c : tie.After-struct-known Inv-loop μ-loop) →
-    let n = getD (c .before .before .before .before .before .args .t1 .nets) (c .before .before .before .loop .i) noNet in (1 ≤ n .right .0) × (n .right .0 ≤ 1024)
-on-row c =
+-- the pins of the net at hand are on rows
+on-rows : (c : tie.After-struct-known Inv-loop μ-loop) →
+    let n = getD (c .before .before .before .before .before .args .t1 .nets) (c .before .before .before .loop .i) noNet in
+    (1 ≤ n .left .0) × (n .left .0 ≤ 1024) × (1 ≤ n .right .0) × (n .right .0 ≤ 1024)
+on-rows c =
     let s = c .before .before .before .before .before in
-    let r = net-accepted (s .args .t1) (s .pre) (net-size s) (c .before .before .before .loop .i) (omega arith) .in-range in
-    let h = s .pre .accepted .board-range in
-    omega arith
+    pin-rows (s .args .t1) (s .pre) (net-size s) (c .before .before .before .loop .i) (omega arith)
 
 nets-by-left-requires : tie.Need-nets-by-left-requires Inv-loop μ-loop
 nets-by-left-requires c κs = search needs
@@ -45,13 +44,13 @@ element-copy-out-net : tie.Need-element-copy-out-net Inv-loop μ-loop
 element-copy-out-net c = search needs
 
 sub-at : tie.Need-sub-at Inv-loop μ-loop
-sub-at c = let r = on-row c in omega arith
+sub-at c = let r = on-rows c in omega arith
 
 mul-before : tie.Need-mul-before Inv-loop μ-loop
-mul-before c = let r = on-row c in omega arith
+mul-before c = let r = on-rows c in omega arith
 
 array-read-before : tie.Need-array-read-before Inv-loop μ-loop
-array-read-before c = let r = on-row c in omega arith
+array-read-before c = let r = on-rows c in omega arith
 
 mul-before-2 : tie.Need-mul-before-2 Inv-loop μ-loop
 mul-before-2 c = search needs

@@ -16,9 +16,10 @@ use Rattle.board.specs.declared.Net.{Net}
 use Rattle.board.specs.Job.{Job}
 use Rattle.board.specs.Stored.{noNet}
 use Rattle.board.specs.Accepted.{Accepted}
-use Rattle.packing.specs.Fits.{isOn, isBefore, isEligible}
-use Rattle.packing.proofs.Fitting.{before-precedes}
-use Rattle.candidates.specs.Placed.{indexFrom, isReady, Placed, numbersFrom, placedNumbers}
+use Rattle.board.specs.Tests.{isOn, isBefore, isEligible}
+use Rattle.board.specs.Tests as tests
+use Rattle.board.proofs.ExactTests.{precedes-exact}
+use Rattle.candidates.specs.Placed.{indexFrom, eligibleAt, Placed, numbersFrom, placedNumbers}
 use Rattle.candidates.specs.Gathered.{candidatesFrom, candidatesOf}
 use Rattle.candidates.proofs.Prefixes.{mem-at, same-key}
 use Rattle.candidates.proofs.NetBefore.{beforeIn, numbers-differ}
@@ -64,7 +65,7 @@ module _ (job : Job) (accepted : Accepted job) (placed earlier : List ℕ) (is :
       by-test (isBefore m n)
       (λ t.
       let same = same-key (λ x. x .left .0) (job .nets) (accepted .lefts-differ) m found i (mem-at (job .nets) k noNet l)
-      (before-precedes m n t .meets ∙ sym (before-precedes found n b .meets)) in
+      (precedes-exact m n .0 t .meets ∙ sym (precedes-exact found n .0 b .meets)) in
       rw (ap (λ x. isOn earlier x) same ∙ o) (or-true (not (isBefore m n))))
       (λ t. rw t refl))))
       (λ o.
@@ -75,8 +76,8 @@ module _ (job : Job) (accepted : Accepted job) (placed earlier : List ℕ) (is :
 
   -- a net of the job is eligible exactly if the look-up says so
   pub eligible-ready : (i : ℕ) → i < length (job .nets) → getD (job .nets) i noNet ≡ n
-      → isEligible job earlier n ≡ isReady (beforeIn (job .nets) n) placed i
-  unfolding isEligible isReady
+      → isEligible job earlier n ≡ eligibleAt (beforeIn (job .nets) n) placed i
+  unfolding isEligible tests.isReady eligibleAt allOf
   eligible-ready i h e =
       let on : isOn earlier n ≡ not (eqb (getD placed i 0) 0) = ap (λ x. isOn earlier x) (sym e) ∙ is .each i h in
       by-test (eqb (getD placed i 0) 0)

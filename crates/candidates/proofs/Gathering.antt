@@ -15,13 +15,13 @@ use Rattle.board.specs.Accepted.{BoardInRange, AcceptedNet}
 use Rattle.board.specs.Stored.{jobOf, noNet}
 use Rattle.board.proofs.ShortestShape.{needed-covered, needed-pos}
 use Rattle.board.proofs.Tops.{accepted-fits, first-top-one, some-top, last-top-room}
-use Rattle.packing.specs.Fits.{isEligible}
+use Rattle.board.specs.Tests.{isEligible}
 use Rattle.blockmap.specs.Bits.{isSet}
 use Rattle.blockmap.specs.Clear.{clearRows, flagTops}
 use Rattle.blockmap.proofs.ClearTops.{flags-length}
 use Rattle.candidates.specs.declared.Candidates.{Candidates}
 use Rattle.candidates.specs.declared.NetTops.{NetTops}
-use Rattle.candidates.specs.Placed.{AcceptedStored, isReady, precedingOf, placedNumbers}
+use Rattle.candidates.specs.Placed.{AcceptedStored, eligibleAt, precedingOf, placedNumbers}
 use Rattle.candidates.specs.Gathered.{Candidate, candidatesFrom, candidatesOf, TopsOf, arraysOf, onPart, flagSlot, flagSlots, GatheredFrom}
 use Rattle.candidates.proofs.Prefixes.{take-more}
 use Rattle.candidates.proofs.NetBefore.{before-at}
@@ -70,17 +70,17 @@ module _ (s : StoredJob) (accepted : AcceptedStored s) (net-size : length (s .ne
 
   module _ (h : i < s .nnets) where
     -- the look-up for net i is the test for it
-    lookup : isEligible (jobOf s) (placedNumbers (jobOf s) placed) (getD (s .nets) i noNet) ≡ isReady (getD (precedingOf (jobOf s)) i 0) placed i
+    lookup : isEligible (jobOf s) (placedNumbers (jobOf s) placed) (getD (s .nets) i noNet) ≡ eligibleAt (getD (precedingOf (jobOf s)) i 0) placed i
     lookup =
         let r = accepted .nets-room in
         let n = getD (s .nets) i noNet in
         let l : i < length (jobOf s .nets) = omega (arith, length-take-le (s .nnets) (s .nets) (omega arith)) in
         eligible-ready (jobOf s) (accepted .accepted) placed (placedNumbers (jobOf s) placed) (placed-numbers (jobOf s) placed (accepted .accepted)) n i l
         (getD-take (s .nnets) (s .nets) i noNet h)
-        ∙ ap (λ b. isReady b placed i) (sym (before-at s accepted net-size i h))
+        ∙ ap (λ b. eligibleAt b placed i) (sym (before-at s accepted net-size i h))
 
     -- a net that is not eligible
-    pub passed-skip : Passed s placed words before found flags i → isReady (getD (precedingOf (jobOf s)) i 0) placed i ≡ false
+    pub passed-skip : Passed s placed words before found flags i → eligibleAt (getD (precedingOf (jobOf s)) i 0) placed i ≡ false
         → Passed s placed words before found flags (i + 1)
     passed-skip p e =
         let r = accepted .nets-room in
@@ -90,7 +90,7 @@ module _ (s : StoredJob) (accepted : AcceptedStored s) (net-size : length (s .ne
         record { arrays = rw same (p .arrays); size = p .size; bytes = λ t map. rw same (p .bytes t map) }
 
     -- an eligible net
-    pub passed-take : 524288 ≤ length before → Passed s placed words before found flags i → isReady (getD (precedingOf (jobOf s)) i 0) placed i ≡ true
+    pub passed-take : 524288 ≤ length before → Passed s placed words before found flags i → eligibleAt (getD (precedingOf (jobOf s)) i 0) placed i ≡ true
         → (tops : NetTops) → TopsOf (s .board) (getD (s .nets) i noNet) tops → (after : List ℕ)
         → after ≡ onPart (found .count) (flagTops (λ top. clearRows words top (tops .need)) (tops .first .0) (tops .last .0 + 1 - tops .first .0)) flags
         → Passed s placed words before (withSlot found (record { index = i; net = getD (s .nets) i noNet }) tops) after (i + 1)

@@ -13,8 +13,8 @@ use Rattle.board.specs.Job.{Job, blocked}
 use Rattle.board.specs.Placement.{firstTop, lastTop}
 use Rattle.board.specs.Accepted.{Accepted}
 use Rattle.board.proofs.Tops.{first-top-one, top-range}
-use Rattle.packing.specs.Fits as fits
-use Rattle.packing.proofs.Fitting.{clear-rows, rows-clear}
+use Rattle.board.specs.Tests as tests
+use Rattle.board.proofs.ExactTests.{clear-rows, rows-clear}
 use Rattle.blockmap.specs.Bits.{isSet}
 use Rattle.blockmap.specs.Clear.{clearRows, flag, flagTops}
 use Rattle.blockmap.proofs.ClearRows.{clear-at, clear-of}
@@ -29,12 +29,12 @@ use Rattle.candidates.proofs.FlagParts.{part-same, part-length, part-at
 
 -- ---- rows that are clear in the block map are clear of blocks
 pub clear-same : (job : Job) (t : ℕ) (words : List ℕ) → ((row : ℕ) → isSet words row ≡ blocked job t row)
-    → (top m : ℕ) → clearRows words top m ≡ fits.clearRows job t top m
+    → (top m : ℕ) → clearRows words top m ≡ tests.clearRows job t top m
 clear-same job t words map top m =
     by-test (clearRows words top m)
     (λ e. e ∙ sym (rows-clear job t top m (λ row a b. sym (map row) ∙ clear-at words top m e row a b)))
     (λ e.
-    by-test (fits.clearRows job t top m)
+    by-test (tests.clearRows job t top m)
     (λ f. absurd (true≢false (sym (clear-of words top m (λ row a b. map row ∙ clear-rows job t top m f row a b)) ∙ e)))
     (λ f. e ∙ sym f))
 
@@ -83,13 +83,13 @@ unfolding flagSlot
 slot-flagged job t words map x tops e i bytes =
     let first = tops .first .0 in
     let count = tops .last .0 + 1 - tops .first .0 in
-    let new : ℕ → Bool = λ top. fits.clearRows job t top (needed (job .board) (x .net)) in
+    let new : ℕ → Bool = λ top. tests.clearRows job t top (needed (job .board) (x .net)) in
     part-same i (flagTops (λ top. clearRows words top (tops .need)) first count)
     (flagTops new (firstTop (x .net) (shortest (job .board) (x .net))) (lastTop (job .board) (x .net) (shortest (job .board) (x .net)) + 1 - firstTop (x .net) (shortest (job .board) (x .net))))
     bytes
     (λ part.
     flags-same (λ top. clearRows words top (tops .need)) new first count part
-    (λ top a b. clear-same job t words map top (tops .need) ∙ ap (λ m. fits.clearRows job t top m) (e .need))
+    (λ top a b. clear-same job t words map top (tops .need) ∙ ap (λ m. tests.clearRows job t top m) (e .need))
     ∙ rw (e .first, e .last) refl)
 
 pub slots-more : (job : Job) (t i : ℕ) (xs : List Candidate) (x : Candidate) (bytes : List ℕ)
@@ -107,12 +107,12 @@ module _ (job : Job) (t : ℕ) where
   -- the flags of candidate x's tops
   abbrev Flagged : Candidate → List ℕ → List ℕ
   Flagged x =
-      flagTops (λ top. fits.clearRows job t top (needed (job .board) (x .net))) (firstTop (x .net) (shortest (job .board) (x .net)))
+      flagTops (λ top. tests.clearRows job t top (needed (job .board) (x .net))) (firstTop (x .net) (shortest (job .board) (x .net)))
       (lastTop (job .board) (x .net) (shortest (job .board) (x .net)) + 1 - firstTop (x .net) (shortest (job .board) (x .net)))
 
   flagged-length : (x : Candidate) (part : List ℕ) → length (Flagged x part) ≡ length part
   flagged-length x part =
-      flags-length (λ top. fits.clearRows job t top (needed (job .board) (x .net))) (firstTop (x .net) (shortest (job .board) (x .net)))
+      flags-length (λ top. tests.clearRows job t top (needed (job .board) (x .net))) (firstTop (x .net) (shortest (job .board) (x .net)))
       (lastTop (job .board) (x .net) (shortest (job .board) (x .net)) + 1 - firstTop (x .net) (shortest (job .board) (x .net))) part
 
   pub slot-length : (i : ℕ) (x : Candidate) (bytes : List ℕ) → i * 1024 + 1024 ≤ length bytes → length (flagSlot job t i x bytes) ≡ length bytes
@@ -126,7 +126,7 @@ module _ (job : Job) (t : ℕ) where
 
   slot-at : (i : ℕ) (x : Candidate) (bytes : List ℕ) (top : ℕ) → job .board .rows ≤ 1024 → i * 1024 + 1024 ≤ length bytes
       → firstTop (x .net) (shortest (job .board) (x .net)) ≤ top → top ≤ lastTop (job .board) (x .net) (shortest (job .board) (x .net))
-      → getD (flagSlot job t i x bytes) (i * 1024 + (top - 1)) 0 ≡ flag (fits.clearRows job t top (needed (job .board) (x .net)))
+      → getD (flagSlot job t i x bytes) (i * 1024 + (top - 1)) 0 ≡ flag (tests.clearRows job t top (needed (job .board) (x .net)))
   unfolding flagSlot
   slot-at i x bytes top rows h a b =
       let board = job .board in
@@ -140,7 +140,7 @@ module _ (job : Job) (t : ℕ) where
       let q : last ≤ board .rows = top-range board n s last (omega arith) (omega arith) .to-rows in
       let size : length part ≡ 1024 = length-take-le 1024 (drop (i * 1024) bytes) (omega (arith, length-drop (i * 1024) bytes)) in
       part-at i (Flagged x) bytes (flagged-length x) h (top - 1) (omega arith)
-      ∙ flags-at (λ r. fits.clearRows job t r (needed board n)) first (last + 1 - first) part top one a (omega arith) (omega arith)
+      ∙ flags-at (λ r. tests.clearRows job t r (needed board n)) first (last + 1 - first) part top one a (omega arith) (omega arith)
 
   -- the parts from i on leave those before them
   slots-below : (i : ℕ) (xs : List Candidate) (bytes : List ℕ) (j : ℕ) → (i + length xs) * 1024 ≤ length bytes → j < i * 1024

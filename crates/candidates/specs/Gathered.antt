@@ -9,7 +9,7 @@ use Rattle.board.specs.declared.Net.{Net}
 use Rattle.board.specs.Length.{shortest, needed, worth}
 use Rattle.board.specs.Job.{Job}
 use Rattle.board.specs.Placement.{firstTop, lastTop}
-use Rattle.packing.specs.Fits.{isEligible, clearRows}
+use Rattle.board.specs.Tests.{isEligible, clearRows}
 use Rattle.blockmap.specs.Clear.{flagTops}
 use Rattle.candidates.specs.declared.Candidates.{Candidates}
 use Rattle.candidates.specs.declared.NetTops.{NetTops}

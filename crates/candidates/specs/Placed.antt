@@ -11,7 +11,7 @@ use Rattle.board.specs.declared.StoredJob.{StoredJob}
 use Rattle.board.specs.Job.{Job}
 use Rattle.board.specs.Stored.{jobOf, noNet}
 use Rattle.board.specs.Accepted.{Accepted}
-use Rattle.packing.specs.Fits.{isOn, isBefore}
+use Rattle.board.specs.Tests.{isOn, isBefore}
 
 -- a job by value that no refusal turns away, and whose counts are within its arrays
 pub record AcceptedStored (s : StoredJob) : Type 0 where
@@ -37,8 +37,8 @@ unfoldable pub precedingOf : Job → List ℕ
 precedingOf job = padded 512 (map (λ n. indexFrom (λ m. isBefore m n) 0 (job .nets)) (job .nets))
 
 -- where placed[k] is the track of net k, 0 if it stands on none: net i stands on none, and the net before it, if there is one, stands on one
-unfoldable pub isReady : ℕ → List ℕ → ℕ → Bool
-isReady before placed i = eqb (getD placed i 0) 0 && (eqb before 512 || not (eqb (getD placed before 0) 0))
+unfoldable pub eligibleAt : ℕ → List ℕ → ℕ → Bool
+eligibleAt before placed i = eqb (getD placed i 0) 0 && (eqb before 512 || not (eqb (getD placed before 0) 0))
 
 -- `earlier` has the number of a net of the job exactly if `placed` has a track for it
 pub record Placed (job : Job) (placed earlier : List ℕ) : Type 0 where

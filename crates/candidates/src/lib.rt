@@ -11,7 +11,7 @@ ghost use Rattle.board.specs.Stored.{jobOf};
 ghost use Rattle.board.specs.Accepted.{BoardInRange, AcceptedNet};
 ghost use Rattle.blockmap.specs.Bits.{isSet};
 ghost use Rattle.blockmap.specs.Clear.{clearRows, flagTops};
-ghost use Rattle.candidates.specs.Placed.{AcceptedStored, indexFrom, precedingOf, isReady, hasBlocks};
+ghost use Rattle.candidates.specs.Placed.{AcceptedStored, indexFrom, precedingOf, eligibleAt, hasBlocks};
 ghost use Rattle.candidates.specs.Gathered.{TopsOf, arraysOf, onPart, GatheredFrom};
 use blockmap::BlockMap;
 use board::Board;
@@ -102,7 +102,7 @@ pub fn preceding(job: StoredJob) -> [usize; 512]
 // Whether net i is eligible, where `before` is the index of the net that precedes it, or 512, and placed[k] is the track of net k, or 0.
 pub fn is_eligible(before: usize, placed: &[usize; 512], i: usize) -> bool
     requires { ⌜ (before ≤ 512) × (i < 512) ⌝ }
-    ensures { λ r. ⌜ r ≡ isReady before (now (placed .entry)) i ⌝ }
+    ensures { λ r. ⌜ r ≡ eligibleAt before (now (placed .entry)) i ⌝ }
 {
     if placed[i] != 0 {
         return false;

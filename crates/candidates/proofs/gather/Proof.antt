@@ -6,7 +6,7 @@ use native.Mathlib.Omega.{arith}
 use lib.ListN.{length, getD}
 use borrow.Author.Tests.{not-true, not-false}
 use Rattle.board.specs.Stored.{noNet, jobOf}
-use Rattle.candidates.specs.Placed.{isReady, precedingOf}
+use Rattle.candidates.specs.Placed.{eligibleAt, precedingOf}
 use Rattle.candidates.proofs.TrackBlocks.{none-blocked}
 use Rattle.candidates.proofs.Gathering.{tops-range, Passed, passed-none, passed-skip, passed-take, passed-count, passed-all}
 use Rattle.candidates.proofs.Prefixes.{length-mapped}
@@ -63,7 +63,7 @@ loop-again : tie.Need-loop-again Inv-loop μ-loop
 loop-again c =
     let s = c .before .before .before .before .before .before .before .before .before .before in
     let l = c .before .before .before .before .loop in
-    let ready : isReady (getD (precedingOf (jobOf (s .args .t1))) (l .i) 0) (s .args .placed .now) (l .i) ≡ false =
+    let ready : eligibleAt (getD (precedingOf (jobOf (s .args .t1))) (l .i) 0) (s .args .placed .now) (l .i) ≡ false =
     rw (s .pre .1 .0) at (sym (c .before .is-eligible .ensures) ∙ not-true _ (c .if1 .taken)) in
     (omega arith, omega arith, passed-skip (s .args .t1) (s .pre .0) (net-size s) (s .args .placed .now) (c .before .before .before .before .before .before .block-map .result .words) (s .args .flags .now) (l .found) (l .flags) (l .i) (omega arith) (l .inv .2) ready)
 
@@ -136,7 +136,7 @@ loop-again-2 c =
     let s = c .before .before .before .before .before .before .before .before .before .before .before .before .before .before .before .before in
     let l = c .before .before .before .before .before .before .before .before .before .before .loop in
     let job = s .args .t1 in
-    let ready : isReady (getD (precedingOf (jobOf job)) (l .i) 0) (s .args .placed .now) (l .i) ≡ true =
+    let ready : eligibleAt (getD (precedingOf (jobOf job)) (l .i) 0) (s .args .placed .now) (l .i) ≡ true =
     rw (s .pre .1 .0) at (sym (c .before .before .before .before .before .before .before .is-eligible .ensures) ∙ not-false _ (c .before .before .before .before .before .before .if1 .left)) in (
       omega arith,
       omega arith,

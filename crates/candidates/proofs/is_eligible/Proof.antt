@@ -1,7 +1,7 @@
 -- `candidates::is_eligible` meets its contract: the tests taken are those of the definition. Assumes nothing.
 use lib.ListN.{getD}
 use borrow.Author.Tests.{eq-eqb, ne-eqb}
-use Rattle.candidates.specs.Placed.{isReady}
+use Rattle.candidates.specs.Placed.{eligibleAt}
 use borrow.Author.Needs.{needs}
 use Rattle.candidates.proofs.is_eligible.Statement.{statement}
 use Rattle.candidates.proofs.is_eligible.Tie as tie
@@ -13,13 +13,13 @@ element-copy-out-if1 : tie.Need-element-copy-out-if1
 element-copy-out-if1 c = search needs
 
 returns : tie.Need-returns
-unfolding isReady
+unfolding eligibleAt
 returns c =
     let a = c .before .before .args in
     rw (ne-eqb (getD (a .placed .now) (a .i) 0) 0 (c .if1 .taken))
 
 returns-2 : tie.Need-returns-2
-unfolding isReady
+unfolding eligibleAt
 returns-2 c =
     let a = c .before .before .before .args in
     rw (eq-eqb (getD (a .placed .now) (a .i) 0) 0 (c .before .if1 .left), eq-eqb (a .before) 512 (c .if2 .taken))
@@ -31,7 +31,7 @@ element-copy-out-result : tie.Need-element-copy-out-result
 element-copy-out-result c = search needs
 
 returns-3 : tie.Need-returns-3
-unfolding isReady
+unfolding eligibleAt
 returns-3 c =
     let a = c .before .before .before .before .args in
     rw (eq-eqb (getD (a .placed .now) (a .i) 0) 0 (c .before .before .if1 .left), ne-eqb (a .before) 512 (c .before .if2 .left))

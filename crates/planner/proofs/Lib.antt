@@ -1,0 +1,5 @@
+-- The plan of a job by value.
+pub mod ChoiceRows
+pub mod Marks
+pub mod Stands
+pub mod FirstTracks

@@ -1,13 +1,11 @@
--- The plan of a job by value: where each net stands and each track's sum, and back to the filled tracks that it stands for.
-use Prim.Native.Nat.{ℕ, zero, suc, _+_, _-_}
-use mathlib.Core.Bool.{Bool, true, false, cond, _&&_}
+-- The plan of a job by value: where each net stands, and each track's sum.
+use Prim.Native.Nat.{ℕ, suc, _+_, _-_}
 use mathlib.Core.Option.{Option, none, some}
 use mathlib.Core.List.{List, [], _∷_, _++_, map}
 use lib.Dec.{eqb}
-use lib.ListN.{length, getD, replicate}
+use lib.ListN.{length, replicate}
 use Rattle.lists.specs.Lists.{firstOf}
 use Rattle.board.specs.declared.Net.{Net}
-use Rattle.board.specs.declared.Shape.{Shape}
 use Rattle.board.specs.Job.{Job}
 use Rattle.board.specs.Placement.{Placement}
 use Rattle.board.specs.Unbeaten.{FilledTrack}

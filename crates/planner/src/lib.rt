@@ -23,3 +23,10 @@ pub struct JobPlan {
     pub nets: [NetPlan; 512],
     pub sums: [usize; 128],
 }
+
+// What is planned after the first tracks: the track of each net, or 0 where it has none, the plan of each net, and the sum of each track.
+pub struct Progress {
+    pub placed: [usize; 512],
+    pub nets: [NetPlan; 512],
+    pub sums: [usize; 128],
+}

@@ -3,3 +3,5 @@ pub mod ChoiceRows
 pub mod Marks
 pub mod Stands
 pub mod FirstTracks
+pub mod Recorded
+pub mod Walking

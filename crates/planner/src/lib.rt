@@ -1,7 +1,15 @@
 // The plan of a job by value: tracks 1 to K in order, each chosen with the nets of the tracks before it held.
+ghost use mathlib.Core.Path.{_≡_};
+ghost use Rattle.board.specs.Accepted.{Accepted};
+ghost use Rattle.board.specs.Stored.{jobOf};
+ghost use Rattle.planner.specs.Progressed.{OnTurn, progressTo, trackPlan};
 use board::Row;
 use board::Shape;
+use board::StoredJob;
 use board::Track;
+use board::needed;
+use board::shortest;
+use choice::TrackPlan;
 
 // Where a net stands: on no track, or on a track with its top at a row, in a shape.
 pub enum Stand {
@@ -29,4 +37,38 @@ pub struct Progress {
     pub placed: [usize; 512],
     pub nets: [NetPlan; 512],
     pub sums: [usize; 128],
+}
+
+// A track recorded from its plan: the walk from row 1 takes the net chosen for a row, and goes on below it.
+pub fn record_track(p: Progress, job: StoredJob, plan: TrackPlan, track: Track) -> Progress
+    requires { ⌜ Accepted (jobOf job) ⌝ }
+    requires { ⌜ OnTurn (jobOf job) (track .0) p ⌝ }
+    requires { ⌜ plan ≡ trackPlan (jobOf job) (track .0) ⌝ }
+    ensures { λ r. ⌜ r ≡ progressTo (jobOf job) (track .0) ⌝ }
+{
+    let mut next = p;
+    let t = track.0;
+    next.sums[t - 1] = plan.sum;
+    let board = job.board;
+    let mut j = 1;
+    while j <= board.rows {
+        let c = plan.choice[j - 1];
+        if c == 512 {
+            j += 1;
+        } else {
+            let net = job.nets[c];
+            let shape = shortest(board, net);
+            let bottom = j + needed(board, net) - 1;
+            let stand = Stand::Wired {
+                track,
+                top: Row(j),
+                shape,
+            };
+            let wired = NetPlan { stand };
+            next.placed[c] = t;
+            next.nets[c] = wired;
+            j = bottom + 1;
+        }
+    }
+    next
 }

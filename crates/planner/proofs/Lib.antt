@@ -5,3 +5,6 @@ pub mod Stands
 pub mod FirstTracks
 pub mod Recorded
 pub mod Walking
+pub mod RowByRow
+pub mod TracksOfPlan
+pub mod PlanIsBest

@@ -8,3 +8,4 @@ pub mod Walking
 pub mod RowByRow
 pub mod TracksOfPlan
 pub mod PlanIsBest
+pub mod NextTrack

@@ -2,14 +2,21 @@
 ghost use mathlib.Core.Path.{_≡_};
 ghost use Rattle.board.specs.Accepted.{Accepted};
 ghost use Rattle.board.specs.Stored.{jobOf};
-ghost use Rattle.planner.specs.Progressed.{OnTurn, progressTo, trackPlan};
+ghost use Prim.Native.Nat.{_≤_};
+ghost use lib.ListN.{length};
+ghost use Rattle.candidates.specs.Placed.{AcceptedStored, precedingOf};
+ghost use Rattle.planner.specs.JobPlans.{jobPlanOf};
+ghost use Rattle.planner.specs.Progressed.{OnTurn, noProgress, progressTo, trackPlan};
 use board::Row;
 use board::Shape;
 use board::StoredJob;
 use board::Track;
 use board::needed;
 use board::shortest;
+use candidates::gather;
+use candidates::preceding;
 use choice::TrackPlan;
+use choice::fill;
 
 // Where a net stands: on no track, or on a track with its top at a row, in a shape.
 pub enum Stand {
@@ -71,4 +78,55 @@ pub fn record_track(p: Progress, job: StoredJob, plan: TrackPlan, track: Track) 
         }
     }
     next
+}
+
+// One more track planned: its candidates gathered, its rows filled, its wires recorded.
+fn plan_track(
+    p: Progress,
+    job: StoredJob,
+    before: &[usize; 512],
+    track: Track,
+    flags: &mut [u8],
+) -> Progress
+    requires { ⌜ AcceptedStored job ⌝ }
+    requires { ⌜ now before ≡ precedingOf (jobOf job) ⌝ }
+    requires { ⌜ 524288 ≤ length (now flags) ⌝ }
+    requires { ⌜ OnTurn (jobOf job) (track .0) p ⌝ }
+    ensures { λ r. ⌜ r ≡ progressTo (jobOf job) (track .0) ⌝ }
+{
+    let c = gather(job, before, &p.placed, track, flags);
+    let plan = fill(c, flags, job.board.rows);
+    record_track(p, job, plan, track)
+}
+
+// Nothing planned yet: every net is loose.
+fn no_progress() -> Progress
+    ensures { λ r. ⌜ r ≡ noProgress ⌝ }
+{
+    let loose = NetPlan {
+        stand: Stand::Loose,
+    };
+    Progress {
+        placed: [0usize; 512],
+        nets: [loose; 512],
+        sums: [0usize; 128],
+    }
+}
+
+// The plan of a job: its tracks filled in order 1 to K.
+pub fn plan_job(job: StoredJob) -> JobPlan
+    requires { ⌜ AcceptedStored job ⌝ }
+    ensures { λ r. ⌜ r ≡ jobPlanOf (jobOf job) ⌝ }
+{
+    let before = preceding(job);
+    let mut flags = [0u8; 524288];
+    let mut p = no_progress();
+    let mut t = 1;
+    while t <= job.board.tracks {
+        p = plan_track(p, job, &before, Track(t), &mut flags);
+        t += 1;
+    }
+    let nets = p.nets;
+    let sums = p.sums;
+    JobPlan { nets, sums }
 }

@@ -5,9 +5,9 @@ use mathlib.Core.Logic.{_↔_}
 use mathlib.Core.Bool.{Bool, true, false, not, cond, _&&_, true≢false}
 use mathlib.Core.List.{List, [], _∷_, _++_}
 use native.Mathlib.Omega.{arith}
-use lib.Dec.{eqb, leb, ltb}
+use lib.Dec.{eqb, leb}
 use lib.ListN.{length}
-use borrow.Author.Tests.{leb-true, leb-false, le-leb, ltb-true, lt-ltb, eqb-false, ne-eqb, not-true}
+use borrow.Author.Tests.{leb-true, leb-false, le-leb, eqb-false, ne-eqb, not-true}
 use Rattle.lists.proofs.Cases.{by-test, and-split, and-both}
 use Rattle.board.specs.declared.Board.{Board}
 use Rattle.board.specs.declared.Net.{Net}
@@ -26,9 +26,6 @@ denied b t e p = true≢false (sym (t .1 p) ∙ e)
 
 pub leb-is : (a b : ℕ) → (leb a b ≡ true) ↔ (a ≤ b)
 leb-is a b = (leb-true a b, le-leb a b)
-
-pub ltb-is : (a b : ℕ) → (ltb a b ≡ true) ↔ (a < b)
-ltb-is a b = (ltb-true a b, lt-ltb a b)
 
 -- two tests of two facts
 pub and-is : {P Q : Type 0} (a b : Bool) → ((a ≡ true) ↔ P) → ((b ≡ true) ↔ Q) → ((a && b) ≡ true) ↔ (P × Q)

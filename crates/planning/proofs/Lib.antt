@@ -1,3 +1,4 @@
 -- The plan of an accepted job is unbeaten on every track, and its sums balance.
 pub mod PlanUnbeaten
 pub mod Balance
+pub mod Boards

@@ -9,6 +9,7 @@ use lib.Dec.{leb, ltb}
 use borrow.Author.Tests.{leb-true, leb-false, ltb-true, ltb-false, lt-ltb}
 use Rattle.lists.specs.Lists.{Each, anyOf, allOf, allPairs}
 use Rattle.lists.proofs.Cases.{by-test}
+use Rattle.lists.proofs.Joins.{Each-each}
 use Rattle.lists.proofs.Laws.{allOf-at, EachPair-of, allOf-Each, allPairs-EachPair}
 use Rattle.board.specs.Length.{width, upper, lower, span, plainLength}
 use Rattle.board.specs.Job.{Job, closes, blocked}
@@ -123,10 +124,6 @@ unfolding failing
 failing-none f [] h = refl
 failing-none f (c ∷ cs) h = rw (h c) (failing-none f cs h)
 
-each-of : {P : Placement → Type 0} (ps : List Placement) → ((p : Placement) → List·Memᴰ p ps → P p) → Each P ps
-each-of [] f = tt
-each-of (p ∷ ps) f = (f p (List·Memᴰ·head refl), each-of ps (λ q m. f q (List·Memᴰ·tail m)))
-
 module _ (job : Job) (earlier : List ℕ) (t : ℕ) (ps : List Placement) where
   pub rival-passes : Rival job earlier t ps → (c : Clause) → passes job earlier t ps c ≡ true
   unfolding passes
@@ -146,7 +143,7 @@ module _ (job : Job) (earlier : List ℕ) (t : ℕ) (ps : List Placement) where
   pub passes-rival : ((c : Clause) → passes job earlier t ps c ≡ true) → Rival job earlier t ps
   unfolding passes
   passes-rival h = record {
-    placeable = each-of ps (λ p m. record {
+    placeable = Each-each ps (λ p m. record {
       of-job = of-job-exact job p .0 (allOf-at _ ps p (h net-of-job) m);
       legal = record {
         allowed = record {

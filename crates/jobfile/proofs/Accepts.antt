@@ -23,7 +23,7 @@ use Rattle.jobfile.specs.declared.Outcome.{Outcome}
 use Rattle.jobfile.specs.declared.Outcome.the-variants.{TooLong, NotOfForm}
 use Rattle.jobfile.specs.Forms.{readForm}
 use Rattle.jobfile.specs.Read.{State, start, opened, sized, filled, closed, Next, go, stop, unless, atStart, atOpened, atSized, atFilled, netOf, blockOf, boardOf, emptyBoard, withNet, withBlock, netInRange, blockInRange, lastNumber, pinsFree, addNet, addBlock, step, Read, accepted, refused, ended, follow, readFrom, readJob}
-use Rattle.jobfile.proofs.Joins.{Each-every, EachPair-join}
+use Rattle.lists.proofs.Joins.{Each-each, EachPair-join}
 use Rattle.jobfile.proofs.Tests.{read-cases, within-is, differ-is, net-range-is, block-range-is, free-is, length-is}
 
 -- what has been read is accepted
@@ -83,7 +83,7 @@ module _ (k : ℕ) (job : Job) (n : Net) (a : Accepted job) where
 
   net-accepted : Facts → Accepted (withNet job n)
   net-accepted t =
-      let m = last-most 0 (job .nets) (a .numbers-rise) (Each-every (job .nets) (λ x i. omega arith)) in
+      let m = last-most 0 (job .nets) (a .numbers-rise) (Each-each (job .nets) (λ x i. omega arith)) in
       let l = ltb-true (lastNumber 0 (job .nets)) (n .number) (t .above) in
       let pins = Each-of (pinsFree n) (job .nets) (λ m h. free-is n m .0 h) (t .free) in
       record {

@@ -1,5 +1,4 @@
 -- The laws of the definitions in specs/.
-pub mod Joins
 pub mod Tests
 pub mod Accepts
 pub mod StoredJobs

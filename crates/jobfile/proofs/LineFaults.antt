@@ -24,7 +24,7 @@ use Rattle.jobfile.specs.declared.Outcome.the-variants.{NotOfForm, OutOf
 use Rattle.jobfile.specs.Read.{State, start, opened, sized, filled, closed, Next, go, stop, unless, atStart, atOpened, atSized, atFilled, within, netOf, blockOf, boardOf, emptyBoard, withNet, withBlock, netInRange, blockInRange, lastNumber, pinsFree, addNet, addBlock, step}
 use Rattle.jobfile.specs.Answers.{numberOf, lineOf, noJob}
 use Rattle.jobfile.specs.Faults.{withForm, jobFrom, jobIn, isBlank, nonBlank, Item, net, block, Ordered, MayFollow, NetFault, net-range, net-count, not-above, left-used, right-used, same-row, no-length, too-few-rows, BlockFault, block-range, block-count, LineFault, not-of-form, rows-range, tracks-range, of-net, of-block}
-use Rattle.jobfile.proofs.Joins.{Each-join, Each-right, allOf-false}
+use Rattle.lists.proofs.Joins.{Each-join, Each-right, allOf-false}
 use Rattle.jobfile.proofs.Tests.{denied, within-is, differ-is, net-range-is, block-range-is, last-number, last-net, free-is, length-is}
 
 -- ---- tests in the order of their numbers

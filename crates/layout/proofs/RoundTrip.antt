@@ -11,7 +11,8 @@ use Rattle.lists.specs.Lists.{allOf}
 use Rattle.lists.proofs.Cases.{and-split}
 use Rattle.text.specs.Bytes.{same, joined, pieces, nonEmpty, lines, isEnd, endsWord}
 use Rattle.text.specs.Digits.{digits, valueFrom}
-use Rattle.text.proofs.Bytes.{allOf-append, same-refl, same-true, piece-then, nonEmpty-some}
+use Rattle.lists.proofs.Joins.{allOf-append}
+use Rattle.text.proofs.Bytes.{same-refl, same-true, piece-then, nonEmpty-some}
 use Rattle.text.proofs.Numbers.{allOf-digits, some-digits, value-digits}
 use Rattle.keywords.specs.Keywords.{layoutWord, trackWord, wireWord, looseWord}
 use Rattle.layout.specs.Tree.{Point, Wire, DrawnTrack, Layout, Line, opens, track, wire, loose, closes}

@@ -1,3 +1,4 @@
 -- The laws of the definitions in specs/.
 pub mod Cases
 pub mod Laws
+pub mod Joins

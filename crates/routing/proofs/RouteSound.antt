@@ -25,7 +25,8 @@ use Rattle.planning.proofs.PlanUnbeaten.{all-allowed, track-optimal, plan-unbea
 use Rattle.planning.proofs.Balance.{once}
 use Rattle.sound.specs.Wires.{trackNumbers, lineNumbers}
 use Rattle.sound.specs.Sound.{SoundTracks, Sound}
-use Rattle.sound.proofs.Joins.{Each-each, Each-join, Each-mapped, EachPair-join, EachPair-map, Distinct}
+use Rattle.lists.proofs.Joins.{Each-each, Each-join, Each-mapped, EachPair-join, EachPair-map}
+use Rattle.sound.proofs.Sums.{Distinct}
 use Rattle.sound.proofs.Nets.{wire-numbers, wires-sum-of}
 use Rattle.routing.specs.Route.{drawnTracks, routeLayout, routeText}
 

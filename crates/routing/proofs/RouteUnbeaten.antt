@@ -25,7 +25,7 @@ use Rattle.layout.proofs.RoundTrip.{read-layout, layout-text-injective}
 use Rattle.sound.specs.Wires.{trackNumbers, wiresSum}
 use Rattle.sound.specs.Sound.{Sound}
 use Rattle.sound.specs.UnbeatenText.{noTrack, OptimalTrack, UnbeatenText}
-use Rattle.sound.proofs.Joins.{Each-mapped}
+use Rattle.lists.proofs.Joins.{Each-mapped}
 use Rattle.sound.proofs.Nets.{wire-numbers, wires-sum-of}
 use Rattle.sound.proofs.Bounds.{bounded-small, sound-bounded, sound-length}
 use Rattle.routing.specs.Route.{drawnTracks, routeLayout, routeText}

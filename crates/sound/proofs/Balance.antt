@@ -14,7 +14,8 @@ use Rattle.board.specs.Accepted.{Accepted}
 use Rattle.layout.specs.Tree.{DrawnTrack}
 use Rattle.sound.specs.Wires.{worthOf, sumOver, wireNumbers, trackNumbers, lineNumbers, wiresSum}
 use Rattle.sound.specs.Sound.{SoundTracks, Sound}
-use Rattle.sound.proofs.Joins.{Each-each, Each-mapped, Distinct, sum-le, sum-join, sum-ones}
+use Rattle.lists.proofs.Joins.{Each-each, Each-mapped}
+use Rattle.sound.proofs.Sums.{Distinct, sum-le, sum-join, sum-ones}
 use Rattle.sound.proofs.Nets.{nets-sum}
 
 -- the sum of the numbers of the track lines

@@ -28,7 +28,7 @@ use Rattle.layout.specs.ReadBack.{smallPoints, smallLine, smallLines, isSmall}
 use Rattle.layout.specs.Drawing.{viaColumn, wireColumn, at, samePoint, distinctFrom, nearRow, farRow, corners, pointsOn, wireOf}
 use Rattle.sound.specs.Wires.{wireNumbers, trackNumbers, lineNumbers}
 use Rattle.sound.specs.Sound.{SoundTracks, Sound}
-use Rattle.sound.proofs.Joins.{Each-each, Each-mapped}
+use Rattle.lists.proofs.Joins.{Each-each, Each-mapped}
 use Rattle.sound.proofs.Balance.{printedSum, balance, lines-count}
 
 -- ---- bounds of a layout

@@ -1,5 +1,5 @@
 -- What holds of every sound layout.
-pub mod Joins
+pub mod Sums
 pub mod Nets
 pub mod Balance
 pub mod Bounds

@@ -1,6 +1,6 @@
 -- The laws of texts as bytes: equality, the pieces between separators, tests on all bytes of a text. Assumes nothing.
 use mathlib.Core.Path.{_≡_, refl, sym, ap, _∙_}
-use mathlib.Core.Bool.{Bool, true, false, not, _&&_, and-assoc}
+use mathlib.Core.Bool.{Bool, true, false, not, _&&_}
 use mathlib.Core.List.{List, [], _∷_, _++_}
 use Prim.Native.Nat.{ℕ, _+_, _≤_, _<_}
 use native.Mathlib.Omega.{arith}
@@ -12,12 +12,6 @@ use borrow.Author.Tests.{not-true, eq-eqb, ne-eqb, eqb-true}
 use Rattle.lists.specs.Lists.{allOf}
 use Rattle.lists.proofs.Cases.{by-test, and-split}
 use Rattle.text.specs.Bytes.{same, joined, pieces, nonEmpty}
-
--- a test on all elements of two lists in a row
-pub allOf-append : {A : Type 0} (f : A → Bool) (s t : List A) → allOf f (s ++ t) ≡ (allOf f s && allOf f t)
-unfolding allOf
-allOf-append f [] t = refl
-allOf-append f (b ∷ s) t = rw (allOf-append f s t, and-assoc)
 
 -- `same` tells whether two texts are equal
 

@@ -13,7 +13,8 @@ use borrow.Author.Tests.{lt-ltb, le-ltb, le-leb, leb-true}
 use Rattle.lists.specs.Lists.{allOf}
 use Rattle.lists.proofs.Cases.{and-split}
 use Rattle.text.specs.Digits.{digitsIn, digits, isDigit, valueFrom, number}
-use Rattle.text.proofs.Bytes.{allOf-append}
+use Rattle.lists.proofs.Joins.{allOf-append}
+use Rattle.text.proofs.Bytes.{}
 
 -- a number below 10 has one digit; any other has those of its tenth and one more
 

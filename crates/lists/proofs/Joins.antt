@@ -1,0 +1,66 @@
+-- Statements and tests over the elements of lists joined or mapped. Assumes nothing.
+use mathlib.Core.Path.{_≡_, refl}
+use mathlib.Core.Bool.{Bool, true, false, _&&_, and-assoc, true≢false}
+use mathlib.Core.List.{List, [], _∷_, _++_, map, List·Memᴰ, List·Memᴰ·head, List·Memᴰ·tail}
+use Rattle.lists.specs.Lists.{Each, EachPair, allOf}
+use Rattle.lists.proofs.Cases.{by-test}
+use Rattle.lists.proofs.Laws.{Each-map}
+
+module _ {A : Type 0} where
+  -- P holds of every element where it holds of each that is listed
+  pub Each-each : {P : A → Type 0} (xs : List A) → ((x : A) → List·Memᴰ x xs → P x) → Each P xs
+  Each-each [] f = tt
+  Each-each (x ∷ xs) f = (f x (List·Memᴰ·head refl), Each-each xs (λ y m. f y (List·Memᴰ·tail m)))
+
+  pub Each-join : (P : A → Type 0) (xs ys : List A) → Each P xs → Each P ys → Each P (xs ++ ys)
+  Each-join P [] ys a b = b
+  Each-join P (x ∷ xs) ys a b = (a .0, Each-join P xs ys (a .1) b)
+
+  pub Each-left : (P : A → Type 0) (xs ys : List A) → Each P (xs ++ ys) → Each P xs
+  Each-left P [] ys a = tt
+  Each-left P (x ∷ xs) ys a = (a .0, Each-left P xs ys (a .1))
+
+  pub Each-right : (P : A → Type 0) (xs ys : List A) → Each P (xs ++ ys) → Each P ys
+  Each-right P [] ys a = a
+  Each-right P (x ∷ xs) ys a = Each-right P xs ys (a .1)
+
+  pub EachPair-join : (R : A → A → Type 0) (xs ys : List A) → EachPair R xs → EachPair R ys → Each (λ x. Each (R x) ys) xs → EachPair R (xs ++ ys)
+  EachPair-join R [] ys a b c = b
+  EachPair-join R (x ∷ xs) ys a b c = (Each-join (R x) xs ys (a .0) (c .0), EachPair-join R xs ys (a .1) b (c .1))
+
+  pub EachPair-left : (R : A → A → Type 0) (xs ys : List A) → EachPair R (xs ++ ys) → EachPair R xs
+  EachPair-left R [] ys a = tt
+  EachPair-left R (x ∷ xs) ys a = (Each-left (R x) xs ys (a .0), EachPair-left R xs ys (a .1))
+
+  pub EachPair-right : (R : A → A → Type 0) (xs ys : List A) → EachPair R (xs ++ ys) → EachPair R ys
+  EachPair-right R [] ys a = a
+  EachPair-right R (x ∷ xs) ys a = EachPair-right R xs ys (a .1)
+
+  -- an element of the first part and one of the second
+  pub EachPair-across : (R : A → A → Type 0) (xs ys : List A) → EachPair R (xs ++ ys) → Each (λ x. Each (R x) ys) xs
+  EachPair-across R [] ys a = tt
+  EachPair-across R (x ∷ xs) ys a = (Each-right (R x) xs ys (a .0), EachPair-across R xs ys (a .1))
+
+  pub EachPair-map : {R S : A → A → Type 0} (xs : List A) → ((x y : A) → R x y → S x y) → EachPair R xs → EachPair S xs
+  EachPair-map [] f a = tt
+  EachPair-map (x ∷ xs) f a = (Each-map xs (f x) (a .0), EachPair-map xs f (a .1))
+
+pub Each-mapped : {A B : Type 0} (f : A → B) (P : B → Type 0) (xs : List A) → Each (λ x. P (f x)) xs → Each P (map f xs)
+Each-mapped f P [] a = tt
+Each-mapped f P (x ∷ xs) a = (a .0, Each-mapped f P xs (a .1))
+
+-- a test on all elements of two lists in a row
+pub allOf-append : {A : Type 0} (f : A → Bool) (s t : List A) → allOf f (s ++ t) ≡ (allOf f s && allOf f t)
+unfolding allOf
+allOf-append f [] t = refl
+allOf-append f (b ∷ s) t = rw (allOf-append f s t, and-assoc)
+
+module _ {A : Type 0} where
+  -- where a test of every element fails, it fails for one
+  pub allOf-false : (f : A → Bool) (xs : List A) → allOf f xs ≡ false → (x : A) × List·Memᴰ x xs × (f x ≡ false)
+  unfolding allOf
+  allOf-false f [] h = absurd (true≢false h)
+  allOf-false f (x ∷ xs) h =
+      by-test (f x)
+      (λ e. let r = allOf-false f xs (rw e at h) in (r .0, List·Memᴰ·tail (r .1), r .2))
+      (λ e. (x, List·Memᴰ·head refl, e))

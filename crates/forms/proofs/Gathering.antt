@@ -1,0 +1,171 @@
+-- The laws of the numbers of a form, gathered one after another. Assumes nothing.
+use mathlib.Core.Path.{_≡_, refl, sym, ap, _∙_}
+use mathlib.Core.Bool.{Bool, true, false, cond, false≢true}
+use mathlib.Core.List.{List, [], _∷_, _++_, append-nil}
+use mathlib.Core.Option.{Option, none, some}
+use Prim.Native.Nat.{ℕ, suc, _+_, _-_, _≤_, _<_}
+use native.Mathlib.Omega.{arith}
+use native.Mathlib.Numerals.{add-one}
+use lib.ListN.{length, getD, take, drop, set, length-set}
+use lib.Seq.{drop-cons, take-suc-set, append-snoc}
+use borrow.Author.Tests.{ne-eqb}
+use Rattle.lists.specs.Lists.{allOf}
+use Rattle.text.specs.Bytes.{same, isBracket}
+use Rattle.text.specs.Digits.{number, numberOf}
+use Rattle.text.specs.declared.Number.the-variants as Read
+use Rattle.lines.specs.Tokens.{tokenAt, tokenWords, lineWords}
+use Rattle.lines.specs.declared.Token.{Token}
+use Rattle.lines.specs.declared.Token.the-variants.{Nothing, Open, Shut, Word}
+use Rattle.lines.proofs.Tokens.{Placed, Tokened, tokened}
+use Rattle.jobfile.specs.Forms.{noWord, consNumber, arguments}
+use Rattle.forms.specs.Arguments.{valueThen, argumentOf, argumentAt, onlyClosing}
+use Rattle.forms.specs.declared.Argument.{Argument}
+use Rattle.forms.specs.declared.Argument.the-variants.{Value, Missing}
+
+-- the words at a token that was read
+pub token-is : (s : List ℕ) (at : ℕ) (r : Token) → r ≡ tokenAt s at → Tokened s at r
+token-is s at r e = rw e (tokened s at)
+
+-- a word is no bracket
+pub word-is-none : (s : List ℕ) (at from to c : ℕ) → Placed s at (Word from to) → isBracket c ≡ true →
+    same (take (to - from) (drop from s)) (c ∷ []) ≡ false
+unfolding same
+word-is-none s at from to c p e =
+    let m : to - from ≡ suc (to - from - 1) = omega arith in
+    let d : (getD s from 0 ≡ c → ⊥) = λ q. false≢true (sym (p .3) ∙ ap isBracket q ∙ e) in
+    rw (m, drop-cons s from 0 (omega arith), ne-eqb (getD s from 0) c d)
+
+-- ---- one number
+
+-- what the answer for a number says of the word
+pub value-is : (o : Option ℕ) (v next : ℕ) → Read.Value v ≡ numberOf o → Value v next ≡ valueThen o next
+unfolding numberOf valueThen
+value-is none v next e = cc
+value-is (some n) v next e = cc
+
+pub bad-is : (o : Option ℕ) (next : ℕ) → Read.Bad ≡ numberOf o → Missing ≡ valueThen o next
+unfolding numberOf valueThen
+bad-is none next e = refl
+bad-is (some n) next e = cc
+
+-- k further numbers behind the one that was read
+unfoldable pub argumentThen : List ℕ → ℕ → Argument → Option (List ℕ)
+argumentThen s k (Value v next) = consNumber (some v) (arguments k (lineWords (drop next s)))
+argumentThen s k Missing = none
+
+abbrev pub Behind : List ℕ → Argument → Type 0
+Behind s (Value v next) = next ≤ length s
+Behind s Missing = Unit {0}
+
+-- the number at a place decides, with what stands behind it, how many numbers stand there
+pub record Argued (s : List ℕ) (at : ℕ) (r : Argument) : Type 0 where
+  pub first : (k : ℕ) → arguments (suc k) (lineWords (drop at s)) ≡ argumentThen s k r
+  pub within : Behind s r
+
+word-argued : (s : List ℕ) (at from to : ℕ) (o : Option ℕ) → Tokened s at (Word from to) →
+    number 5 (take (to - from) (drop from s)) ≡ o → Argued s at (valueThen o to)
+unfolding tokenWords arguments argumentThen consNumber valueThen
+word-argued s at from to none t e = record { first = λ k. rw (t .words, e); within = tt }
+word-argued s at from to (some v) t e = record { first = λ k. rw (t .words, e); within = t .placed .2 }
+
+token-argued : (s : List ℕ) (at : ℕ) (r : Token) → Tokened s at r → Argued s at (argumentOf s r)
+unfolding tokenWords arguments argumentThen consNumber number allOf argumentOf
+token-argued s at Nothing t = record { first = λ k. rw (t .words); within = tt }
+token-argued s at (Open next) t = record { first = λ k. rw (t .words); within = tt }
+token-argued s at (Shut next) t = record { first = λ k. rw (t .words); within = tt }
+token-argued s at (Word from to) t = word-argued s at from to (number 5 (take (to - from) (drop from s))) t refl
+
+pub argued : (s : List ℕ) (at : ℕ) → Argued s at (argumentAt s at)
+unfolding argumentAt
+argued s at = token-argued s at (tokenAt s at) (tokened s at)
+
+pub argued-is : (s : List ℕ) (at : ℕ) (r : Argument) → r ≡ argumentAt s at → Argued s at r
+argued-is s at r e = rw e (argued s at)
+
+-- ---- several
+
+-- numbers that have been read, before those that follow
+unfoldable pub prefixed : List ℕ → Option (List ℕ) → Option (List ℕ)
+prefixed xs none = none
+prefixed xs (some ns) = some (xs ++ ns)
+
+prefixed-nil : (o : Option (List ℕ)) → o ≡ prefixed [] o
+unfolding prefixed
+prefixed-nil none = refl
+prefixed-nil (some ns) = refl
+
+prefixed-snoc : (xs : List ℕ) (v : ℕ) (o : Option (List ℕ)) → prefixed xs (consNumber (some v) o) ≡ prefixed (xs ++ (v ∷ [])) o
+unfolding prefixed consNumber
+prefixed-snoc xs v none = refl
+prefixed-snoc xs v (some ns) = rw append-snoc
+
+prefixed-last : (xs : List ℕ) (t : Bool) → prefixed xs (cond t (some []) none) ≡ cond t (some xs) none
+unfolding prefixed
+prefixed-last xs true = rw append-nil
+prefixed-last xs false = refl
+
+-- of k numbers from the place `at` on, the first j are in n, and the others begin at p
+pub record Gathered (s : List ℕ) (at k : ℕ) (n : List ℕ) (p j : ℕ) : Type 0 where
+  pub some-left : j ≤ k
+  pub inside : p ≤ length s
+  pub room : length n ≡ 5
+  pub rest : arguments k (lineWords (drop at s)) ≡ prefixed (take j n) (arguments (k - j) (lineWords (drop p s)))
+
+pub gathered-none : (s : List ℕ) (at k : ℕ) (n : List ℕ) → at ≤ length s → length n ≡ 5 → Gathered s at k n at 0
+gathered-none s at k n h r =
+    let e : k - 0 ≡ k = omega arith in
+    record { some-left = omega arith; inside = h; room = r; rest = rw e (prefixed-nil (arguments k (lineWords (drop at s)))) }
+
+pub gathered-more : {s : List ℕ} {at k : ℕ} {n : List ℕ} {p j v next : ℕ} → Gathered s at k n p j → j < k → k ≤ 5 →
+    Argued s p (Value v next) → Gathered s at k (set n j v) next (j + 1)
+unfolding argumentThen
+gathered-more {s} {at} {k} {n} {p} {j} {v} {next} g h m a =
+    let e : k - j ≡ suc (k - (j + 1)) = omega arith in
+    record {
+      some-left = omega arith;
+      inside = a .within;
+      room = length-set n j v ∙ g .room;
+      rest =
+          g .rest
+          ∙ rw (e, a .first (k - (j + 1)), add-one j, take-suc-set n j v (omega arith))
+          (prefixed-snoc (take j n) v (arguments (k - suc j) (lineWords (drop next s))));
+    }
+
+pub gathered-stopped : {s : List ℕ} {at k : ℕ} {n : List ℕ} {p j : ℕ} → Gathered s at k n p j → j < k → Argued s p Missing →
+    none ≡ arguments k (lineWords (drop at s))
+unfolding argumentThen prefixed
+gathered-stopped {s} {at} {k} {n} {p} {j} g h a =
+    let e : k - j ≡ suc (k - (j + 1)) = omega arith in
+    sym (g .rest ∙ rw (e, a .first (k - (j + 1))))
+
+none-after : (ws : List (List ℕ)) → arguments 0 ws ≡ cond (onlyClosing ws) (some []) none
+unfolding arguments onlyClosing
+none-after [] = refl
+none-after (w ∷ ws) = refl
+
+-- behind the last number
+pub gathered-all : {s : List ℕ} {at k : ℕ} {n : List ℕ} {p j : ℕ} (t : Bool) → Gathered s at k n p j → k ≤ j →
+    t ≡ onlyClosing (lineWords (drop p s)) → cond t (some (take k n)) none ≡ arguments k (lineWords (drop at s))
+gathered-all {s} {at} {k} {n} {p} {j} t g h c =
+    let e : k - j ≡ 0 = omega arith in
+    let f : j ≡ k = omega arith in
+    sym (g .rest ∙ rw (e, f, none-after (lineWords (drop p s)), c) (prefixed-last (take k n) (onlyClosing (lineWords (drop p s)))))
+
+-- whether a closing bracket is the last token
+
+pub closed-shut : (s : List ℕ) (at next : ℕ) → Tokened s at (Shut next) →
+    noWord (lineWords (drop next s)) ≡ onlyClosing (lineWords (drop at s))
+unfolding tokenWords onlyClosing same
+closed-shut s at next t = rw (t .words)
+
+pub closed-open : (s : List ℕ) (at next : ℕ) → Tokened s at (Open next) → false ≡ onlyClosing (lineWords (drop at s))
+unfolding tokenWords onlyClosing same
+closed-open s at next t = rw (t .words)
+
+pub closed-nothing : (s : List ℕ) (at : ℕ) → Tokened s at Nothing → false ≡ onlyClosing (lineWords (drop at s))
+unfolding tokenWords onlyClosing
+closed-nothing s at t = rw (t .words)
+
+pub closed-word : (s : List ℕ) (at from to : ℕ) → Tokened s at (Word from to) → false ≡ onlyClosing (lineWords (drop at s))
+unfolding tokenWords onlyClosing
+closed-word s at from to t = rw (t .words, word-is-none s at from to 41 (t .placed) refl)

@@ -1,0 +1,3 @@
+-- The laws of reading a form.
+pub mod Gathering
+pub mod Forms

@@ -1,0 +1,2 @@
+-- The numbers of a form as the code holds them.
+pub mod Arguments

@@ -1,0 +1,123 @@
+-- What a line of each form leads to, in its place and out of it. Assumes nothing.
+use Prim.Native.Nat.{ℕ, zero, suc}
+use mathlib.Core.Path.{_≡_, refl, sym, ap, _∙_}
+use mathlib.Core.Bool.{true, false, true≢false}
+use lib.Dec.{eqb}
+use borrow.Author.Tests.{eqb-true}
+use Rattle.board.specs.declared.StoredJob.{StoredJob}
+use Rattle.board.specs.Job.{Job}
+use Rattle.board.specs.Stored.{jobOf}
+use Rattle.jobfile.specs.declared.Form.{Form}
+use Rattle.jobfile.specs.declared.Form.the-variants as Is
+use Rattle.jobfile.specs.declared.Outcome.the-variants.{Accepted, NotOfForm, OutOfRange}
+use Rattle.jobfile.specs.Read.{Next, go, stop, sized, filled, unless, within, atStart, atOpened, atSized, atFilled, netOf, blockOf, boardOf, emptyBoard, addNet, addBlock, step}
+use Rattle.reader.specs.Progress.{mayStand, stateOf, progressOf, Filled, Held}
+use Rattle.reader.specs.declared.Progress.{Progress}
+
+-- a form out of its place
+
+no-start : (k stage : ℕ) (job : StoredJob) (x : Next) → eqb stage 0 ≡ false → stop (NotOfForm k) ≡ atStart k (stateOf stage job) x
+unfolding stateOf atStart
+no-start k zero job x e = absurd (true≢false e)
+no-start k (suc zero) job x e = refl
+no-start k (suc (suc zero)) job x e = refl
+no-start k (suc (suc (suc zero))) job x e = refl
+no-start k (suc (suc (suc (suc stage)))) job x e = refl
+
+no-opened : (k stage : ℕ) (job : StoredJob) (x : Next) → eqb stage 1 ≡ false → stop (NotOfForm k) ≡ atOpened k (stateOf stage job) x
+unfolding stateOf atOpened
+no-opened k zero job x e = refl
+no-opened k (suc zero) job x e = absurd (true≢false e)
+no-opened k (suc (suc zero)) job x e = refl
+no-opened k (suc (suc (suc zero))) job x e = refl
+no-opened k (suc (suc (suc (suc stage)))) job x e = refl
+
+no-sized : (k stage : ℕ) (job : StoredJob) (f : ℕ → Next) → eqb stage 2 ≡ false → stop (NotOfForm k) ≡ atSized k (stateOf stage job) f
+unfolding stateOf atSized
+no-sized k zero job f e = refl
+no-sized k (suc zero) job f e = refl
+no-sized k (suc (suc zero)) job f e = absurd (true≢false e)
+no-sized k (suc (suc (suc zero))) job f e = refl
+no-sized k (suc (suc (suc (suc stage)))) job f e = refl
+
+no-filled : (k stage : ℕ) (job : StoredJob) (f : Job → Next) → eqb stage 3 ≡ false → stop (NotOfForm k) ≡ atFilled k (stateOf stage job) f
+unfolding stateOf atFilled
+no-filled k zero job f e = refl
+no-filled k (suc zero) job f e = refl
+no-filled k (suc (suc zero)) job f e = refl
+no-filled k (suc (suc (suc zero))) job f e = absurd (true≢false e)
+no-filled k (suc (suc (suc (suc stage)))) job f e = refl
+
+pub wrong-place : (k stage : ℕ) (job : StoredJob) (form : Form) → mayStand stage form ≡ false →
+    stop (NotOfForm k) ≡ step k (stateOf stage job) form
+unfolding mayStand step
+wrong-place k stage job Is.Blank e = absurd (true≢false e)
+wrong-place k stage job Is.Board e = no-start k stage job _ e
+wrong-place k stage job (Is.Rows h) e = no-opened k stage job _ e
+wrong-place k stage job (Is.Tracks t) e = no-sized k stage job _ e
+wrong-place k stage job (Is.Net i l r lo hi) e = no-filled k stage job _ e
+wrong-place k stage job (Is.Block t a b) e = no-filled k stage job _ e
+wrong-place k stage job Is.Close e = no-filled k stage job _ e
+wrong-place k stage job Is.Other e = refl
+
+-- a form in its place
+
+module _ (k stage : ℕ) (job : StoredJob) (form : Form) where
+  at-stage : (here : ℕ) → mayStand stage form ≡ eqb stage here → mayStand stage form ≡ true → stage ≡ here
+  at-stage here e t = eqb-true stage here (sym e ∙ t)
+
+  pub rows-place : (h : ℕ) → form ≡ Is.Rows h → mayStand stage form ≡ true →
+      unless (within 1 1024 h) (OutOfRange k) (go (sized h)) ≡ step k (stateOf stage job) form
+  unfolding mayStand step stateOf atOpened
+  rows-place h e t = let s : stage ≡ 1 = at-stage 1 (ap (mayStand stage) e) t in rw (e, s)
+
+  pub tracks-place : (t : ℕ) → form ≡ Is.Tracks t → mayStand stage form ≡ true →
+      unless (within 1 128 t) (OutOfRange k) (go (filled (emptyBoard (boardOf (job .board .rows) t)))) ≡ step k (stateOf stage job) form
+  unfolding mayStand step stateOf atSized
+  tracks-place t e p = let s : stage ≡ 2 = at-stage 2 (ap (mayStand stage) e) p in rw (e, s)
+
+  pub net-place : (i l r lo hi : ℕ) → form ≡ Is.Net i l r lo hi → mayStand stage form ≡ true →
+      addNet k (netOf i l r lo hi) (jobOf job) ≡ step k (stateOf stage job) form
+  unfolding mayStand step stateOf atFilled
+  net-place i l r lo hi e p = let s : stage ≡ 3 = at-stage 3 (ap (mayStand stage) e) p in rw (e, s)
+
+  pub block-place : (t a b : ℕ) → form ≡ Is.Block t a b → mayStand stage form ≡ true →
+      addBlock k (blockOf t a b) (jobOf job) ≡ step k (stateOf stage job) form
+  unfolding mayStand step stateOf atFilled
+  block-place t a b e p = let s : stage ≡ 3 = at-stage 3 (ap (mayStand stage) e) p in rw (e, s)
+
+  module _ (held : Held stage job) where
+    -- nets and blocks come to a job with its size
+    filled-here : stage ≡ 3 → Filled job
+    filled-here s = rw s at (held .ranges)
+
+    pub net-filled : (i l r lo hi : ℕ) → form ≡ Is.Net i l r lo hi → mayStand stage form ≡ true → Filled job
+    unfolding mayStand
+    net-filled i l r lo hi e p = filled-here (at-stage 3 (ap (mayStand stage) e) p)
+
+    pub block-filled : (t a b : ℕ) → form ≡ Is.Block t a b → mayStand stage form ≡ true → Filled job
+    unfolding mayStand
+    block-filled t a b e p = filled-here (at-stage 3 (ap (mayStand stage) e) p)
+
+    pub blank-line : form ≡ Is.Blank → record { outcome = Accepted; stage = stage; job = job } ≡ progressOf (step k (stateOf stage job) form)
+    unfolding step
+    blank-line e = rw e (sym (held .value))
+
+    pub board-line : form ≡ Is.Board → mayStand stage form ≡ true →
+        record { outcome = Accepted; stage = 1; job = job } ≡ progressOf (step k (stateOf stage job) form)
+    unfolding mayStand step stateOf atStart progressOf
+    board-line e p =
+        let s : stage ≡ 0 = at-stage 0 (ap (mayStand stage) e) p in
+        let v = ap (λ (q : Progress). q .job) (rw s at (held .value)) in
+        rw (e, s, v)
+
+    pub close-line : form ≡ Is.Close → mayStand stage form ≡ true →
+        record { outcome = Accepted; stage = 4; job = job } ≡ progressOf (step k (stateOf stage job) form)
+    unfolding mayStand step stateOf atFilled progressOf
+    close-line e p =
+        let s : stage ≡ 3 = at-stage 3 (ap (mayStand stage) e) p in
+        rw (e, s, filled-here s .stored)
+
+  pub other-line : form ≡ Is.Other → progressOf (stop (NotOfForm k)) ≡ progressOf (step k (stateOf stage job) form)
+  unfolding step
+  other-line e = rw e

@@ -1,0 +1,84 @@
+-- The laws of the tests of a line, one after another: what a line leads to where all of them pass. Assumes nothing.
+use Prim.Native.Nat.{ℕ, _≤_, _<_}
+use mathlib.Core.Path.{_≡_, refl, ap}
+use mathlib.Core.Bool.{Bool, true, false}
+use native.Mathlib.Omega.{arith}
+use lib.Dec.{leb}
+use lib.ListN.{length}
+use borrow.Author.Tests.{ltb-true, le-leb, lt-leb}
+use Rattle.board.specs.declared.Net.{Net}
+use Rattle.board.specs.declared.Block.{Block}
+use Rattle.board.specs.declared.StoredJob.{StoredJob}
+use Rattle.board.specs.Job.{Job}
+use Rattle.board.specs.Stored.{storedOf}
+use Rattle.jobfile.specs.declared.Outcome.{Outcome}
+use Rattle.jobfile.specs.Read.{filled, Next, go, stop, unless, withNet, withBlock, addNet, addBlock}
+use Rattle.jobfile.specs.Answers.{numberOf}
+use Rattle.reader.specs.Progress.{outcomeOf, progressOf}
+
+-- a test of a value that was computed
+pub test-yes : {x y : ℕ} (m : ℕ) → x ≡ y → x ≤ m → leb y m ≡ true
+test-yes {x} {y} m e h = le-leb y m (omega arith)
+
+pub test-no : {x y : ℕ} (m : ℕ) → x ≡ y → m < x → leb y m ≡ false
+test-no {x} {y} m e h = lt-leb y m (omega arith)
+
+-- nothing is refused
+abbrev pub Passes : Next → Type 0
+Passes x = numberOf (outcomeOf x) ≡ 0
+
+-- a refusal is what the line leads to
+pub refused-is : (x : Next) (o : Outcome) → o ≡ outcomeOf x → (numberOf o ≡ 0 → ⊥) → progressOf (stop o) ≡ progressOf x
+unfolding outcomeOf
+refused-is (go s) o e h = absurd (h (ap numberOf e))
+refused-is (stop p) o e h = ap (λ (q : Outcome). progressOf (stop q)) e
+
+-- and so is a job with one more net or block
+pub taken-is : (x : Next) (job : Job) (o : Outcome) (w : StoredJob) → x ≡ go (filled job) → o ≡ outcomeOf x → w ≡ storedOf job →
+    record { outcome = o; stage = 3; job = w } ≡ progressOf x
+unfolding outcomeOf progressOf
+taken-is x job o w e f g = rw (f, g, e)
+
+-- a test that has to pass, before others
+passed-first : {P : Type 0} (b : Bool) (o : Outcome) (x : Next) → (numberOf o ≡ 0 → ⊥) → (b ≡ true → Passes x → P) → Passes (unless b o x) → P
+unfolding unless outcomeOf
+passed-first true o x h f e = f refl e
+passed-first false o x h f e = absurd (h e)
+
+-- x leads to y, if to anything
+abbrev Leads : Next → Next → Type 0
+Leads y x = Passes x → x ≡ y
+
+unless-leads : (b : Bool) (o : Outcome) (x y : Next) → (numberOf o ≡ 0 → ⊥) → Leads y x → Leads y (unless b o x)
+unfolding unless outcomeOf
+unless-leads true o x y h f e = f e
+unless-leads false o x y h f e = absurd (h e)
+
+module _ (k : ℕ) (n : Net) (job : Job) where
+  pub net-few : Passes (addNet k n job) → length (job .nets) < 512
+  unfolding addNet
+  net-few =
+      passed-first _ _ _ (λ z. omega arith) (λ e3.
+      passed-first _ _ _ (λ z. omega arith) (λ e4 p. ltb-true _ _ e4))
+
+  pub net-goes : Passes (addNet k n job) → addNet k n job ≡ go (filled (withNet job n))
+  unfolding addNet
+  net-goes =
+      unless-leads _ _ _ _ (λ z. omega arith)
+      (unless-leads _ _ _ _ (λ z. omega arith)
+      (unless-leads _ _ _ _ (λ z. omega arith)
+      (unless-leads _ _ _ _ (λ z. omega arith)
+      (unless-leads _ _ _ _ (λ z. omega arith)
+      (unless-leads _ _ _ _ (λ z. omega arith)
+      (unless-leads _ _ _ _ (λ z. omega arith) (λ e. refl)))))))
+
+module _ (k : ℕ) (b : Block) (job : Job) where
+  pub block-few : Passes (addBlock k b job) → length (job .blocks) < 256
+  unfolding addBlock
+  block-few =
+      passed-first _ _ _ (λ z. omega arith) (λ e3.
+      passed-first _ _ _ (λ z. omega arith) (λ e4 p. ltb-true _ _ e4))
+
+  pub block-goes : Passes (addBlock k b job) → addBlock k b job ≡ go (filled (withBlock job b))
+  unfolding addBlock
+  block-goes = unless-leads _ _ _ _ (λ z. omega arith) (unless-leads _ _ _ _ (λ z. omega arith) (λ e. refl))

@@ -1,0 +1,137 @@
+-- The slots of a job by value: how many there are, which nets and blocks they hold, and how one more of them is stored. Assumes nothing.
+use Prim.Native.Nat.{ℕ, suc, _+_, _-_, _≤_, _<_}
+use mathlib.Core.Path.{_≡_, sym, ap, _∙_}
+use mathlib.Core.Bool.{true, false, and-false}
+use mathlib.Core.List.{List}
+use native.Mathlib.Omega.{arith}
+use native.Mathlib.Numerals.{add-one}
+use lib.ListN.{length, getD, take, replicate, set, length-append, length-take, length-replicate, drop-of-length-le}
+use lib.Seq.{slice, slice-cons, take-suc}
+use borrow.Author.Tests.{eq-eqb, ne-eqb}
+use Rattle.lists.specs.Lists.{allOf}
+use Rattle.board.specs.declared.Net.{Net}
+use Rattle.board.specs.declared.Block.{Block}
+use Rattle.board.specs.declared.StoredJob.{StoredJob}
+use Rattle.board.specs.Stored.{jobOf, storedOf, noNet, noBlock}
+use Rattle.jobfile.specs.Read.{lastNumber, pinsFree, withNet, withBlock}
+use Rattle.jobfile.proofs.Tests.{last-number}
+use Rattle.jobfile.proofs.StoredJobs.{stored-net, stored-block}
+use Rattle.reader.specs.Progress.{Filled}
+
+module _ (job : StoredJob) (f : Filled job) where
+  -- the used slots are as many as counted
+  pub nets-used : length (jobOf job .nets) ≡ job .nnets
+  unfolding storedOf
+  nets-used = ap (λ (s : StoredJob). s .nnets) (f .stored)
+
+  pub blocks-used : length (jobOf job .blocks) ≡ job .nblocks
+  unfolding storedOf
+  blocks-used = ap (λ (s : StoredJob). s .nblocks) (f .stored)
+
+  -- and the slots are 512 and 256
+  pub nets-room : length (job .nets) ≡ 512
+  unfolding storedOf
+  nets-room =
+      let r = 512 - length (take (job .nnets) (job .nets)) in
+      omega (
+        arith,
+        nets-used,
+        ap (λ (s : StoredJob). length (s .nets)) (f .stored),
+        length-append (take (job .nnets) (job .nets)) (replicate r noNet),
+        length-replicate r noNet,
+      )
+
+  pub blocks-room : length (job .blocks) ≡ 256
+  unfolding storedOf
+  blocks-room =
+      let r = 256 - length (take (job .nblocks) (job .blocks)) in
+      omega (
+        arith,
+        blocks-used,
+        ap (λ (s : StoredJob). length (s .blocks)) (f .stored),
+        length-append (take (job .nblocks) (job .blocks)) (replicate r noBlock),
+        length-replicate r noBlock,
+      )
+
+  -- one more takes the first slot that is not used
+  pub net-more : (n : Net) → job .nnets < 512 →
+      record {
+        board = job .board;
+        nnets = job .nnets + 1;
+        nblocks = job .nblocks;
+        nets = set (job .nets) (job .nnets) n;
+        blocks = job .blocks;
+      } ≡
+      storedOf (withNet (jobOf job) n)
+  net-more n h =
+      sym
+      (stored-net (jobOf job) n (omega (arith, nets-used))
+      ∙ ap
+      (λ (s : StoredJob). record {
+        board = s .board;
+        nnets = s .nnets + 1;
+        nblocks = s .nblocks;
+        nets = set (s .nets) (s .nnets) n;
+        blocks = s .blocks;
+      })
+      (f .stored))
+
+  pub block-more : (b : Block) → job .nblocks < 256 →
+      record {
+        board = job .board;
+        nnets = job .nnets;
+        nblocks = job .nblocks + 1;
+        nets = job .nets;
+        blocks = set (job .blocks) (job .nblocks) b;
+      } ≡
+      storedOf (withBlock (jobOf job) b)
+  block-more b h =
+      sym
+      (stored-block (jobOf job) b (omega (arith, blocks-used))
+      ∙ ap
+      (λ (s : StoredJob). record {
+        board = s .board;
+        nnets = s .nnets;
+        nblocks = s .nblocks + 1;
+        nets = s .nets;
+        blocks = set (s .blocks) (s .nblocks) b;
+      })
+      (f .stored))
+
+-- the number of the last net
+
+pub no-last : (ns : List Net) (k : ℕ) → k ≡ 0 → 0 ≡ lastNumber 0 (take k ns)
+unfolding lastNumber
+no-last ns k e = rw e
+
+pub last-of : (ns : List Net) (k : ℕ) (d : Net) → (k ≡ 0 → ⊥) → k ≤ length ns → getD ns (k - 1) d .number ≡ lastNumber 0 (take k ns)
+last-of ns k d h l =
+    let e : k ≡ suc (k - 1) = omega arith in
+    let g : k - 1 < length ns = omega arith in
+    sym (ap (λ (i : ℕ). lastNumber 0 (take i ns)) e ∙ (rw (take-suc ns (k - 1) d g) (last-number 0 (take (k - 1) ns) (getD ns (k - 1) d))))
+
+-- a walk through the nets for one with a row of n
+
+module _ (n : Net) (ns : List Net) (k i : ℕ) (d : Net) (h : i < k) (l : k ≤ length ns) where
+  pub left-used : getD ns i d .left .0 ≡ n .left .0 → allOf (pinsFree n) (slice i k ns) ≡ false
+  unfolding allOf pinsFree
+  left-used e = rw (slice-cons i k ns d h l, eq-eqb (getD ns i d .left .0) (n .left .0) e)
+
+  pub right-used : getD ns i d .right .0 ≡ n .right .0 → allOf (pinsFree n) (slice i k ns) ≡ false
+  unfolding allOf pinsFree
+  right-used e = rw (slice-cons i k ns d h l, eq-eqb (getD ns i d .right .0) (n .right .0) e, and-false)
+
+  pub both-free : (getD ns i d .left .0 ≡ n .left .0 → ⊥) → (getD ns i d .right .0 ≡ n .right .0 → ⊥) →
+      allOf (pinsFree n) (slice i k ns) ≡ allOf (pinsFree n) (slice (i + 1) k ns)
+  unfolding allOf pinsFree
+  both-free e g =
+      rw (
+        slice-cons i k ns d h l,
+        ne-eqb (getD ns i d .left .0) (n .left .0) e,
+        ne-eqb (getD ns i d .right .0) (n .right .0) g,
+        add-one i,
+      )
+
+pub all-free : (n : Net) (ns : List Net) (k i : ℕ) → k ≤ i → allOf (pinsFree n) (slice i k ns) ≡ true
+unfolding allOf
+all-free n ns k i h = rw (drop-of-length-le (take k ns) {i = i} (omega (arith, length-take k ns)))

@@ -1,0 +1,134 @@
+use Rattle.reader.proofs.Outcomes.{test-yes, test-no}
+-- `reader::net_outcome` meets its contract: refusals 3 to 9, the first that fits. Assumes nothing.
+use mathlib.Core.Path.{_≡_, sym, ap, _∙_}
+use mathlib.Core.Bool.{true}
+use native.Mathlib.Omega.{arith}
+use lib.Dec.{ltb}
+use lib.ListN.{length}
+use borrow.Author.Tests.{not-true, not-false, eq-eqb, ne-eqb, lt-ltb, le-ltb}
+use Rattle.lists.specs.Lists.{allOf}
+use Rattle.board.specs.Stored.{jobOf}
+use Rattle.board.specs.Length.{extra, lengthOf, shortest, needed}
+use Rattle.board.specs.Accepted.{NetInRange}
+use Rattle.board.proofs.ShortestShape.{stretch-range}
+use Rattle.jobfile.specs.Read.{unless, netInRange, lastNumber, pinsFree, addNet}
+use Rattle.jobfile.proofs.Tests.{net-range-is}
+use Rattle.reader.specs.Progress.{outcomeOf}
+use Rattle.reader.proofs.Slots.{nets-used}
+use borrow.Author.Needs.{needs}
+use Rattle.reader.proofs.net_outcome.Statement.{statement}
+use Rattle.reader.proofs.net_outcome.Tie as tie
+
+is-net-in-range-requires : tie.Need-is-net-in-range-requires
+is-net-in-range-requires c κs = search needs
+
+-- what the tests that were passed say
+ranged : (c : tie.Else1) → netInRange (c .before .before .before .args .job .board) (c .before .before .before .args .net) ≡ true
+ranged c = sym (c .before .is-net-in-range .ensures) ∙ not-false _ (c .if1 .left)
+
+few : (c : tie.Else2) → ltb (length (jobOf (c .before .before .before .before .before .args .job) .nets)) 512 ≡ true
+few c = rw (nets-used _ (c .before .before .before .before .before .pre)) (lt-ltb _ _ (c .if2 .left))
+
+above : (c : tie.Else3) → ltb (lastNumber 0 (jobOf (c .before .before .before .before .before .before .before .before .args .job) .nets)) (c .before .before .before .before .before .before .before .before .args .net .number) ≡ true
+above c = rw (← c .before .before .last-number .ensures) (lt-ltb _ _ (c .if3 .left))
+
+free : (c : tie.Else4) → allOf (pinsFree (c .before .before .before .before .before .before .before .before .before .before .args .net)) (jobOf (c .before .before .before .before .before .before .before .before .before .before .args .job) .nets) ≡ true
+free c = sym (c .before .are-pins-free .ensures) ∙ not-false _ (c .if4 .left)
+
+in-range : (c : tie.Else1) → NetInRange (c .before .before .before .args .job .board) (c .before .before .before .args .net)
+in-range c = net-range-is _ _ .0 (ranged c)
+
+returns : tie.Need-returns
+unfolding outcomeOf addNet unless
+returns c = rw (sym (c .before .is-net-in-range .ensures) ∙ not-true _ (c .if1 .taken))
+
+returns-2 : tie.Need-returns-2
+unfolding outcomeOf addNet unless
+returns-2 c = rw (ranged (c .before .before), nets-used _ (c .before .before .before .before .before .pre), le-ltb _ _ (c .if2 .taken))
+
+last-number-requires : tie.Need-last-number-requires
+last-number-requires c κs = search needs
+
+returns-3 : tie.Need-returns-3
+unfolding outcomeOf addNet unless
+returns-3 c = rw (ranged (c .before .before .before .before .before), few (c .before .before .before), ← c .before .before .last-number .ensures, le-ltb _ _ (c .if3 .taken))
+
+are-pins-free-requires : tie.Need-are-pins-free-requires
+are-pins-free-requires c κs = search needs
+
+returns-4 : tie.Need-returns-4
+unfolding outcomeOf addNet unless
+returns-4 c = rw (ranged (c .before .before .before .before .before .before .before), few (c .before .before .before .before .before), above (c .before .before), sym (c .before .are-pins-free .ensures) ∙ not-true _ (c .if4 .taken))
+
+returns-5 : tie.Need-returns-5
+unfolding outcomeOf addNet unless
+returns-5 c = rw (ranged (c .before .before .before .before .before .before .before .before .before), few (c .before .before .before .before .before .before .before), above (c .before .before .before .before), free (c .before .before), eq-eqb _ _ (c .if5 .taken))
+
+shortest-requires : tie.Need-shortest-requires
+shortest-requires c κs = (c .before .before .before .before .before .before .before .before .before .before .before .before .pre .board-range, in-range (c .before .before .before .before .before .before .before .before .before))
+
+length-of-requires : tie.Need-length-of-requires
+length-of-requires c κs =
+    let b = c .before .before .before .before .before .before .before .before .before .before .before .before .before .pre .board-range in
+    let r = in-range (c .before .before .before .before .before .before .before .before .before .before) in
+    (b, (r, omega (arith, ap extra (c .shortest .ensures), stretch-range _ _ b r)))
+
+returns-6 : tie.Need-returns-6
+unfolding outcomeOf addNet unless
+returns-6 c =
+    rw (
+      ranged (c .before .before .before .before .before .before .before .before .before .before .before .before .before),
+      few (c .before .before .before .before .before .before .before .before .before .before .before),
+      above (c .before .before .before .before .before .before .before .before),
+      free (c .before .before .before .before .before .before),
+      ne-eqb _ _ (c .before .before .before .before .if5 .left),
+      test-no _ (c .before .before .length-of .ensures ∙ ap (lengthOf _ _) (c .before .before .before .shortest .ensures)) (c .if6 .taken),
+    )
+
+needed-requires : tie.Need-needed-requires
+needed-requires c κs = (c .before .before .before .before .before .before .before .before .before .before .before .before .before .before .before .before .pre .board-range, in-range (c .before .before .before .before .before .before .before .before .before .before .before .before .before))
+
+returns-7 : tie.Need-returns-7
+unfolding outcomeOf addNet unless
+returns-7 c =
+    rw (
+      ranged (c .before .before .before .before .before .before .before .before .before .before .before .before .before .before .before .before),
+      few (c .before .before .before .before .before .before .before .before .before .before .before .before .before .before),
+      above (c .before .before .before .before .before .before .before .before .before .before .before),
+      free (c .before .before .before .before .before .before .before .before .before),
+      ne-eqb _ _ (c .before .before .before .before .before .before .before .if5 .left),
+      test-yes _ (c .before .before .before .before .before .length-of .ensures ∙ ap (lengthOf _ _) (c .before .before .before .before .before .before .shortest .ensures)) (c .before .before .before .if6 .left),
+      test-no _ (c .before .before .needed .ensures) (c .if7 .taken),
+    )
+
+returns-8 : tie.Need-returns-8
+unfolding outcomeOf addNet unless
+returns-8 c =
+    rw (
+      ranged (c .before .before .before .before .before .before .before .before .before .before .before .before .before .before .before .before),
+      few (c .before .before .before .before .before .before .before .before .before .before .before .before .before .before),
+      above (c .before .before .before .before .before .before .before .before .before .before .before),
+      free (c .before .before .before .before .before .before .before .before .before),
+      ne-eqb _ _ (c .before .before .before .before .before .before .before .if5 .left),
+      test-yes _ (c .before .before .before .before .before .length-of .ensures ∙ ap (lengthOf _ _) (c .before .before .before .before .before .before .shortest .ensures)) (c .before .before .before .if6 .left),
+      test-yes _ (c .before .before .needed .ensures) (c .if7 .left),
+    )
+
+pub net-outcome-spec : {M : Type 1} → statement M
+net-outcome-spec =
+    tie.close
+    (tie.spec
+    is-net-in-range-requires
+    returns
+    returns-2
+    last-number-requires
+    returns-3
+    are-pins-free-requires
+    returns-4
+    returns-5
+    shortest-requires
+    length-of-requires
+    returns-6
+    needed-requires
+    returns-7
+    returns-8)

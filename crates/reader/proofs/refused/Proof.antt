@@ -1,0 +1,15 @@
+-- `reader::refused` meets its contract. Assumes nothing.
+use Rattle.reader.specs.Progress.{progressOf}
+use borrow.Author.Needs.{needs}
+use Rattle.reader.proofs.refused.Statement.{statement}
+use Rattle.reader.proofs.refused.Tie as tie
+
+empty-job-requires : tie.Need-empty-job-requires
+empty-job-requires c κs = search needs
+
+returns : tie.Need-returns
+unfolding progressOf
+returns c = rw (c .empty-job .ensures)
+
+pub refused-spec : {M : Type 1} → statement M
+refused-spec = tie.close (tie.spec empty-job-requires returns)

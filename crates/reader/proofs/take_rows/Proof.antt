@@ -1,0 +1,29 @@
+-- `reader::take_rows` meets its contract. Assumes nothing.
+use mathlib.Core.Path.{sym, _∙_}
+use borrow.Author.Tests.{not-true, not-false}
+use Rattle.jobfile.specs.Read.{unless}
+use Rattle.reader.specs.Progress.{progressOf}
+use borrow.Author.Needs.{needs}
+use Rattle.reader.proofs.take_rows.Statement.{statement}
+use Rattle.reader.proofs.take_rows.Tie as tie
+
+is-within-requires : tie.Need-is-within-requires
+is-within-requires c κs = search needs
+
+refused-requires : tie.Need-refused-requires
+refused-requires c κs = search needs
+
+returns : tie.Need-returns
+unfolding unless
+returns c = c .refused .ensures ∙ (rw (sym (c .before .before .is-within .ensures) ∙ not-true _ (c .before .if1 .taken)))
+
+empty-job-requires : tie.Need-empty-job-requires
+empty-job-requires c κs = search needs
+
+returns-2 : tie.Need-returns-2
+unfolding unless progressOf
+returns-2 c = rw (sym (c .before .before .is-within .ensures) ∙ not-false _ (c .before .if1 .left), c .empty-job .ensures)
+
+pub take-rows-spec : {M : Type 1} → statement M
+take-rows-spec =
+    tie.close (tie.spec is-within-requires refused-requires returns empty-job-requires returns-2)

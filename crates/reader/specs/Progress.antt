@@ -1,0 +1,66 @@
+-- What the code of read holds of the lines above: a stage and a job by value stand for a state, and a line leads to the next ones.
+use mathlib.Core.Path.{_≡_}
+use mathlib.Core.Bool.{Bool, true, false}
+use Prim.Native.Nat.{ℕ, zero, suc, _≤_}
+use lib.Dec.{eqb}
+use Rattle.board.specs.declared.StoredJob.{StoredJob}
+use Rattle.board.specs.Accepted.{BoardInRange}
+use Rattle.board.specs.Stored.{jobOf, storedOf}
+use Rattle.jobfile.specs.declared.Form.{Form}
+use Rattle.jobfile.specs.declared.Form.the-variants as Is
+use Rattle.jobfile.specs.declared.Outcome.{Outcome}
+use Rattle.jobfile.specs.declared.Outcome.the-variants.{Accepted}
+use Rattle.jobfile.specs.Read.{State, start, opened, sized, filled, closed, Next, go, stop, boardOf, emptyBoard}
+use Rattle.jobfile.specs.Answers.{noJob}
+use Rattle.reader.specs.declared.Progress.{Progress}
+
+-- the forms that may stand at a stage
+unfoldable pub mayStand : ℕ → Form → Bool
+mayStand stage Is.Blank = true
+mayStand stage Is.Board = eqb stage 0
+mayStand stage (Is.Rows h) = eqb stage 1
+mayStand stage (Is.Tracks k) = eqb stage 2
+mayStand stage (Is.Net i l r lo hi) = eqb stage 3
+mayStand stage (Is.Block t a b) = eqb stage 3
+mayStand stage Is.Close = eqb stage 3
+mayStand stage Is.Other = false
+
+-- the state that a stage and a job by value stand for
+unfoldable pub stateOf : ℕ → StoredJob → State
+stateOf zero job = start
+stateOf (suc zero) job = opened
+stateOf (suc (suc zero)) job = sized (job .board .rows)
+stateOf (suc (suc (suc zero))) job = filled (jobOf job)
+stateOf (suc (suc (suc (suc stage)))) job = closed (jobOf job)
+
+-- the outcome of a line: nothing is refused where the lines go on
+unfoldable pub outcomeOf : Next → Outcome
+outcomeOf (go s) = Accepted
+outcomeOf (stop o) = o
+
+-- and what the code holds behind it; nothing where the text is refused
+unfoldable pub progressOf : Next → Progress
+progressOf (go start) = record { outcome = Accepted; stage = 0; job = storedOf noJob }
+progressOf (go opened) = record { outcome = Accepted; stage = 1; job = storedOf noJob }
+progressOf (go (sized h)) = record { outcome = Accepted; stage = 2; job = storedOf (emptyBoard (boardOf h 0)) }
+progressOf (go (filled job)) = record { outcome = Accepted; stage = 3; job = storedOf job }
+progressOf (go (closed job)) = record { outcome = Accepted; stage = 4; job = storedOf job }
+progressOf (stop o) = record { outcome = o; stage = 0; job = storedOf noJob }
+
+-- a job by value behind `(tracks K)`: its size is in range, it has no more nets and blocks than slots, and every unused slot is empty
+pub record Filled (job : StoredJob) : Type 0 where
+  pub stored : storedOf (jobOf job) ≡ job
+  pub board-range : BoardInRange (job .board)
+  pub nets-count : job .nnets ≤ 512
+  pub blocks-count : job .nblocks ≤ 256
+
+abbrev pub FilledAt : ℕ → StoredJob → Type 0
+FilledAt zero job = Unit {0}
+FilledAt (suc zero) job = Unit {0}
+FilledAt (suc (suc zero)) job = (1 ≤ job .board .rows) × (job .board .rows ≤ 1024)
+FilledAt (suc (suc (suc stage))) job = Filled job
+
+-- a stage and a job by value that the code can hold
+pub record Held (stage : ℕ) (job : StoredJob) : Type 0 where
+  pub value : progressOf (go (stateOf stage job)) ≡ record { outcome = Accepted; stage = stage; job = job }
+  pub ranges : FilledAt stage job

@@ -1,6 +1,4 @@
 -- The laws of read.
-pub mod Slots
-pub mod Outcomes
 pub mod Lines
 pub mod States
 pub mod Reading

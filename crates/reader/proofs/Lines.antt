@@ -6,13 +6,28 @@ use lib.Dec.{eqb}
 use borrow.Author.Tests.{eqb-true}
 use Rattle.board.specs.declared.StoredJob.{StoredJob}
 use Rattle.board.specs.Job.{Job}
-use Rattle.board.specs.Stored.{jobOf}
+use Rattle.board.specs.Stored.{jobOf, storedOf}
 use Rattle.jobfile.specs.declared.Form.{Form}
 use Rattle.jobfile.specs.declared.Form.the-variants as Is
+use Rattle.jobfile.specs.declared.Outcome.{Outcome}
 use Rattle.jobfile.specs.declared.Outcome.the-variants.{Accepted, NotOfForm, OutOfRange}
 use Rattle.jobfile.specs.Read.{Next, go, stop, sized, filled, unless, within, atStart, atOpened, atSized, atFilled, netOf, blockOf, boardOf, emptyBoard, addNet, addBlock, step}
-use Rattle.reader.specs.Progress.{mayStand, stateOf, progressOf, Filled, Held}
+use Rattle.jobfile.specs.Answers.{numberOf}
+use Rattle.jobrules.specs.Rules.{Filled, outcomeOf}
+use Rattle.reader.specs.Progress.{mayStand, stateOf, progressOf, Held}
 use Rattle.reader.specs.declared.Progress.{Progress}
+
+-- what the code holds behind a line that was tested
+
+pub refused-is : (x : Next) (o : Outcome) → o ≡ outcomeOf x → (numberOf o ≡ 0 → ⊥) → progressOf (stop o) ≡ progressOf x
+unfolding outcomeOf
+refused-is (go s) o e h = absurd (h (ap numberOf e))
+refused-is (stop p) o e h = ap (λ (q : Outcome). progressOf (stop q)) e
+
+pub taken-is : (x : Next) (job : Job) (o : Outcome) (w : StoredJob) → x ≡ go (filled job) → o ≡ outcomeOf x → w ≡ storedOf job →
+    record { outcome = o; stage = 3; job = w } ≡ progressOf x
+unfolding outcomeOf progressOf
+taken-is x job o w e f g = rw (f, g, e)
 
 -- a form out of its place
 

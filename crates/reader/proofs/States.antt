@@ -21,9 +21,10 @@ use Rattle.jobfile.specs.Read.{State, start, opened, sized, filled, closed, Nex
 use Rattle.jobfile.specs.Answers.{numberOf, lineOf}
 use Rattle.jobfile.proofs.Tests.{within-is}
 use Rattle.jobfile.proofs.StoredJobs.{jobOf-storedOf}
-use Rattle.reader.specs.Progress.{stateOf, progressOf, Filled, FilledAt, Held}
+use Rattle.jobrules.specs.Rules.{Filled}
+use Rattle.reader.specs.Progress.{stateOf, progressOf, FilledAt, Held}
 use Rattle.reader.specs.declared.Progress.{Progress}
-use Rattle.reader.proofs.Slots.{nets-used, blocks-used}
+use Rattle.jobrules.proofs.Slots.{nets-used, blocks-used}
 
 -- a job whose size is in range and that has room for its nets and blocks
 pub record Sized (job : Job) : Type 0 where

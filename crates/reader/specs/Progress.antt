@@ -4,14 +4,13 @@ use mathlib.Core.Bool.{Bool, true, false}
 use Prim.Native.Nat.{ℕ, zero, suc, _≤_}
 use lib.Dec.{eqb}
 use Rattle.board.specs.declared.StoredJob.{StoredJob}
-use Rattle.board.specs.Accepted.{BoardInRange}
 use Rattle.board.specs.Stored.{jobOf, storedOf}
 use Rattle.jobfile.specs.declared.Form.{Form}
 use Rattle.jobfile.specs.declared.Form.the-variants as Is
-use Rattle.jobfile.specs.declared.Outcome.{Outcome}
 use Rattle.jobfile.specs.declared.Outcome.the-variants.{Accepted}
 use Rattle.jobfile.specs.Read.{State, start, opened, sized, filled, closed, Next, go, stop, boardOf, emptyBoard}
 use Rattle.jobfile.specs.Answers.{noJob}
+use Rattle.jobrules.specs.Rules.{Filled}
 use Rattle.reader.specs.declared.Progress.{Progress}
 
 -- the forms that may stand at a stage
@@ -33,12 +32,7 @@ stateOf (suc (suc zero)) job = sized (job .board .rows)
 stateOf (suc (suc (suc zero))) job = filled (jobOf job)
 stateOf (suc (suc (suc (suc stage)))) job = closed (jobOf job)
 
--- the outcome of a line: nothing is refused where the lines go on
-unfoldable pub outcomeOf : Next → Outcome
-outcomeOf (go s) = Accepted
-outcomeOf (stop o) = o
-
--- and what the code holds behind it; nothing where the text is refused
+-- what the code holds behind a line; nothing where the text is refused
 unfoldable pub progressOf : Next → Progress
 progressOf (go start) = record { outcome = Accepted; stage = 0; job = storedOf noJob }
 progressOf (go opened) = record { outcome = Accepted; stage = 1; job = storedOf noJob }
@@ -47,13 +41,7 @@ progressOf (go (filled job)) = record { outcome = Accepted; stage = 3; job = sto
 progressOf (go (closed job)) = record { outcome = Accepted; stage = 4; job = storedOf job }
 progressOf (stop o) = record { outcome = o; stage = 0; job = storedOf noJob }
 
--- a job by value behind `(tracks K)`: its size is in range, it has no more nets and blocks than slots, and every unused slot is empty
-pub record Filled (job : StoredJob) : Type 0 where
-  pub stored : storedOf (jobOf job) ≡ job
-  pub board-range : BoardInRange (job .board)
-  pub nets-count : job .nnets ≤ 512
-  pub blocks-count : job .nblocks ≤ 256
-
+-- the size in range, as far as it is known at a stage
 abbrev pub FilledAt : ℕ → StoredJob → Type 0
 FilledAt zero job = Unit {0}
 FilledAt (suc zero) job = Unit {0}

@@ -2,8 +2,9 @@
 use mathlib.Core.Path.{sym, ap, _∙_}
 use native.Mathlib.Omega.{arith}
 use Rattle.jobfile.specs.Answers.{numberOf}
-use Rattle.reader.proofs.Slots.{blocks-used}
-use Rattle.reader.proofs.Outcomes.{refused-is, taken-is, block-few, block-goes}
+use Rattle.jobrules.proofs.Slots.{blocks-used}
+use Rattle.jobrules.proofs.Outcomes.{block-few, block-goes}
+use Rattle.reader.proofs.Lines.{refused-is, taken-is}
 use borrow.Author.Needs.{needs}
 use Rattle.reader.proofs.take_block.Statement.{statement}
 use Rattle.reader.proofs.take_block.Tie as tie

@@ -1,16 +1,16 @@
--- `reader::are_pins_free` meets its contract. The invariant: the nets that are left decide. Assumes nothing.
+-- `jobrules::are_pins_free` meets its contract. The invariant: the nets that are left decide. Assumes nothing.
 use mathlib.Core.Path.{sym, _∙_, refl}
 use lib.Seq.{slice}
 use Rattle.lists.specs.Lists.{allOf}
 use Rattle.board.specs.Stored.{jobOf}
 use Rattle.jobfile.specs.Read.{pinsFree}
-use Rattle.reader.proofs.Slots.{nets-room, left-used, right-used, both-free, all-free}
+use Rattle.jobrules.proofs.Slots.{nets-room, left-used, right-used, both-free, all-free}
 use Prim.Native.Nat.{_≤_, _-_}
 use mathlib.Core.Path.{_≡_}
 use native.Mathlib.Omega.{arith}
 use borrow.Author.Needs.{needs}
-use Rattle.reader.proofs.are_pins_free.Statement.{statement}
-use Rattle.reader.proofs.are_pins_free.Tie as tie
+use Rattle.jobrules.proofs.are_pins_free.Statement.{statement}
+use Rattle.jobrules.proofs.are_pins_free.Tie as tie
 
 abbrev Inv-loop : tie.InvT-loop
 Inv-loop net job count i₀ i = (i ≤ count) × (allOf (pinsFree net) (jobOf job .nets) ≡ allOf (pinsFree net) (slice i count (job .nets)))

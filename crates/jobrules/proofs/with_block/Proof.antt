@@ -1,9 +1,9 @@
--- `reader::with_block` meets its contract. Assumes nothing.
+-- `jobrules::with_block` meets its contract. Assumes nothing.
 use native.Mathlib.Omega.{arith}
-use Rattle.reader.proofs.Slots.{blocks-room, block-more}
+use Rattle.jobrules.proofs.Slots.{blocks-room, block-more}
 use borrow.Author.Needs.{needs}
-use Rattle.reader.proofs.with_block.Statement.{statement}
-use Rattle.reader.proofs.with_block.Tie as tie
+use Rattle.jobrules.proofs.with_block.Statement.{statement}
+use Rattle.jobrules.proofs.with_block.Tie as tie
 
 mul-block : tie.Need-mul-block
 mul-block c = search needs

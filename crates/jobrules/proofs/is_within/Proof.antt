@@ -1,8 +1,8 @@
--- `reader::is_within` meets its contract. Assumes nothing.
+-- `jobrules::is_within` meets its contract. Assumes nothing.
 use borrow.Author.Tests.{le-leb, lt-leb}
 use Rattle.jobfile.specs.Read.{within}
-use Rattle.reader.proofs.is_within.Statement.{statement}
-use Rattle.reader.proofs.is_within.Tie as tie
+use Rattle.jobrules.proofs.is_within.Statement.{statement}
+use Rattle.jobrules.proofs.is_within.Tie as tie
 
 returns : tie.Need-returns
 unfolding within

@@ -1,8 +1,8 @@
--- `reader::empty_job` meets its contract: every slot holds the empty record. Assumes nothing.
+-- `jobrules::empty_job` meets its contract: every slot holds the empty record. Assumes nothing.
 use mathlib.Core.Path.{refl}
 use Rattle.board.specs.Stored.{storedOf}
-use Rattle.reader.proofs.empty_job.Statement.{statement}
-use Rattle.reader.proofs.empty_job.Tie as tie
+use Rattle.jobrules.proofs.empty_job.Statement.{statement}
+use Rattle.jobrules.proofs.empty_job.Tie as tie
 
 returns : tie.Need-returns
 unfolding storedOf

@@ -1,9 +1,9 @@
--- `reader::with_net` meets its contract. Assumes nothing.
+-- `jobrules::with_net` meets its contract. Assumes nothing.
 use native.Mathlib.Omega.{arith}
-use Rattle.reader.proofs.Slots.{nets-room, net-more}
+use Rattle.jobrules.proofs.Slots.{nets-room, net-more}
 use borrow.Author.Needs.{needs}
-use Rattle.reader.proofs.with_net.Statement.{statement}
-use Rattle.reader.proofs.with_net.Tie as tie
+use Rattle.jobrules.proofs.with_net.Statement.{statement}
+use Rattle.jobrules.proofs.with_net.Tie as tie
 
 mul-net : tie.Need-mul-net
 mul-net c = search needs

@@ -1,6 +1,6 @@
 -- The laws of the tests of a line, one after another: what a line leads to where all of them pass. Assumes nothing.
 use Prim.Native.Nat.{ℕ, _≤_, _<_}
-use mathlib.Core.Path.{_≡_, refl, ap}
+use mathlib.Core.Path.{_≡_, refl}
 use mathlib.Core.Bool.{Bool, true, false}
 use native.Mathlib.Omega.{arith}
 use lib.Dec.{leb}
@@ -8,13 +8,11 @@ use lib.ListN.{length}
 use borrow.Author.Tests.{ltb-true, le-leb, lt-leb}
 use Rattle.board.specs.declared.Net.{Net}
 use Rattle.board.specs.declared.Block.{Block}
-use Rattle.board.specs.declared.StoredJob.{StoredJob}
 use Rattle.board.specs.Job.{Job}
-use Rattle.board.specs.Stored.{storedOf}
 use Rattle.jobfile.specs.declared.Outcome.{Outcome}
-use Rattle.jobfile.specs.Read.{filled, Next, go, stop, unless, withNet, withBlock, addNet, addBlock}
+use Rattle.jobfile.specs.Read.{filled, Next, go, unless, withNet, withBlock, addNet, addBlock}
 use Rattle.jobfile.specs.Answers.{numberOf}
-use Rattle.reader.specs.Progress.{outcomeOf, progressOf}
+use Rattle.jobrules.specs.Rules.{outcomeOf}
 
 -- a test of a value that was computed
 pub test-yes : {x y : ℕ} (m : ℕ) → x ≡ y → x ≤ m → leb y m ≡ true
@@ -26,18 +24,6 @@ test-no {x} {y} m e h = lt-leb y m (omega arith)
 -- nothing is refused
 abbrev pub Passes : Next → Type 0
 Passes x = numberOf (outcomeOf x) ≡ 0
-
--- a refusal is what the line leads to
-pub refused-is : (x : Next) (o : Outcome) → o ≡ outcomeOf x → (numberOf o ≡ 0 → ⊥) → progressOf (stop o) ≡ progressOf x
-unfolding outcomeOf
-refused-is (go s) o e h = absurd (h (ap numberOf e))
-refused-is (stop p) o e h = ap (λ (q : Outcome). progressOf (stop q)) e
-
--- and so is a job with one more net or block
-pub taken-is : (x : Next) (job : Job) (o : Outcome) (w : StoredJob) → x ≡ go (filled job) → o ≡ outcomeOf x → w ≡ storedOf job →
-    record { outcome = o; stage = 3; job = w } ≡ progressOf x
-unfolding outcomeOf progressOf
-taken-is x job o w e f g = rw (f, g, e)
 
 -- a test that has to pass, before others
 passed-first : {P : Type 0} (b : Bool) (o : Outcome) (x : Next) → (numberOf o ≡ 0 → ⊥) → (b ≡ true → Passes x → P) → Passes (unless b o x) → P

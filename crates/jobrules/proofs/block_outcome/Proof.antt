@@ -1,12 +1,12 @@
--- `reader::block_outcome` meets its contract: refusal 3, then 4. Assumes nothing.
+-- `jobrules::block_outcome` meets its contract: refusal 3, then 4. Assumes nothing.
 use mathlib.Core.Path.{sym, _∙_}
 use borrow.Author.Tests.{not-true, not-false, lt-ltb, le-ltb}
 use Rattle.jobfile.specs.Read.{unless, addBlock}
-use Rattle.reader.specs.Progress.{outcomeOf}
-use Rattle.reader.proofs.Slots.{blocks-used}
+use Rattle.jobrules.specs.Rules.{outcomeOf}
+use Rattle.jobrules.proofs.Slots.{blocks-used}
 use borrow.Author.Needs.{needs}
-use Rattle.reader.proofs.block_outcome.Statement.{statement}
-use Rattle.reader.proofs.block_outcome.Tie as tie
+use Rattle.jobrules.proofs.block_outcome.Statement.{statement}
+use Rattle.jobrules.proofs.block_outcome.Tie as tie
 
 is-block-in-range-requires : tie.Need-is-block-in-range-requires
 is-block-in-range-requires c κs = search needs

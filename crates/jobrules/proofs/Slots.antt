@@ -16,7 +16,7 @@ use Rattle.board.specs.Stored.{jobOf, storedOf, noNet, noBlock}
 use Rattle.jobfile.specs.Read.{lastNumber, pinsFree, withNet, withBlock}
 use Rattle.jobfile.proofs.Tests.{last-number}
 use Rattle.jobfile.proofs.StoredJobs.{stored-net, stored-block}
-use Rattle.reader.specs.Progress.{Filled}
+use Rattle.jobrules.specs.Rules.{Filled}
 
 module _ (job : StoredJob) (f : Filled job) where
   -- the used slots are as many as counted

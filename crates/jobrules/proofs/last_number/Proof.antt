@@ -1,9 +1,9 @@
--- `reader::last_number` meets its contract. Assumes nothing.
+-- `jobrules::last_number` meets its contract. Assumes nothing.
 use native.Mathlib.Omega.{arith}
-use Rattle.reader.proofs.Slots.{nets-room, no-last, last-of}
+use Rattle.jobrules.proofs.Slots.{nets-room, no-last, last-of}
 use borrow.Author.Needs.{needs}
-use Rattle.reader.proofs.last_number.Statement.{statement}
-use Rattle.reader.proofs.last_number.Tie as tie
+use Rattle.jobrules.proofs.last_number.Statement.{statement}
+use Rattle.jobrules.proofs.last_number.Tie as tie
 
 returns : tie.Need-returns
 returns c = no-last _ _ (c .if1 .taken)

@@ -1,10 +1,10 @@
--- `reader::is_net_in_range` meets its contract: one test after another. Assumes nothing.
+-- `jobrules::is_net_in_range` meets its contract: one test after another. Assumes nothing.
 use mathlib.Core.Path.{sym, _∙_}
 use borrow.Author.Tests.{not-true, not-false, le-leb, lt-leb}
 use Rattle.jobfile.specs.Read.{netInRange}
 use borrow.Author.Needs.{needs}
-use Rattle.reader.proofs.is_net_in_range.Statement.{statement}
-use Rattle.reader.proofs.is_net_in_range.Tie as tie
+use Rattle.jobrules.proofs.is_net_in_range.Statement.{statement}
+use Rattle.jobrules.proofs.is_net_in_range.Tie as tie
 
 is-within-requires : tie.Need-is-within-requires
 is-within-requires c κs = search needs

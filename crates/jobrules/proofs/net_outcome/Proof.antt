@@ -1,5 +1,5 @@
-use Rattle.reader.proofs.Outcomes.{test-yes, test-no}
--- `reader::net_outcome` meets its contract: refusals 3 to 9, the first that fits. Assumes nothing.
+-- `jobrules::net_outcome` meets its contract: refusals 3 to 9, the first that fits. Assumes nothing.
+use Rattle.jobrules.proofs.Outcomes.{test-yes, test-no}
 use mathlib.Core.Path.{_≡_, sym, ap, _∙_}
 use mathlib.Core.Bool.{true}
 use native.Mathlib.Omega.{arith}
@@ -13,11 +13,11 @@ use Rattle.board.specs.Accepted.{NetInRange}
 use Rattle.board.proofs.ShortestShape.{stretch-range}
 use Rattle.jobfile.specs.Read.{unless, netInRange, lastNumber, pinsFree, addNet}
 use Rattle.jobfile.proofs.Tests.{net-range-is}
-use Rattle.reader.specs.Progress.{outcomeOf}
-use Rattle.reader.proofs.Slots.{nets-used}
+use Rattle.jobrules.specs.Rules.{outcomeOf}
+use Rattle.jobrules.proofs.Slots.{nets-used}
 use borrow.Author.Needs.{needs}
-use Rattle.reader.proofs.net_outcome.Statement.{statement}
-use Rattle.reader.proofs.net_outcome.Tie as tie
+use Rattle.jobrules.proofs.net_outcome.Statement.{statement}
+use Rattle.jobrules.proofs.net_outcome.Tie as tie
 
 is-net-in-range-requires : tie.Need-is-net-in-range-requires
 is-net-in-range-requires c κs = search needs

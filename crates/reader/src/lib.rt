@@ -266,12 +266,15 @@ pub fn read(text: &[u8]) -> Answer
                 }
                 let after = take_form(stage, job, form, line);
                 let outcome = after.outcome;
-                let held = after.job;
                 if jobrules::number_of(outcome) != 0 {
-                    return Answer { outcome, job: held };
+                    let nothing = after.job;
+                    return Answer {
+                        outcome,
+                        job: nothing,
+                    };
                 }
                 stage = after.stage;
-                job = held;
+                job = after.job;
             }
             FormStep::End => {
                 return finish(stage, job, cursor.place.passed + 1);

@@ -58,7 +58,7 @@ number-of-requires c κs = search needs
 returns-2 : tie.Need-returns-2 Inv-loop μ-loop
 returns-2 c =
     going-refused _ _ _ _ (c .before .before .before .before .before .before .before .before .before .before .before .loop .inv) _ _ (sym (c .before .before .before .before .before .before .before .before .form .given .1) ∙ c .before .before .before .before .before .before .before .before .before .before .next .ensures) _ (c .before .before .before .take-form .ensures)
-    (λ z. c .if3 .taken (c .before .number-of .ensures ∙ z))
+    (λ z. c .before .if3 .taken (c .before .before .number-of .ensures ∙ z))
     ∙ ap answerOf (not-too-long _ (c .before .before .before .before .before .before .before .before .before .before .before .before .before .if1 .left))
 
 loop-less-2 : tie.Need-loop-less-2 Inv-loop μ-loop
@@ -70,7 +70,7 @@ loop-less-2 c =
 loop-again-2 : tie.Need-loop-again-2 Inv-loop μ-loop
 loop-again-2 c =
     going-more _ _ _ _ (c .before .before .before .before .before .before .before .before .before .before .before .loop .inv) _ _ (sym (c .before .before .before .before .before .before .before .before .form .given .1) ∙ c .before .before .before .before .before .before .before .before .before .before .next .ensures) _ (c .before .before .before .take-form .ensures)
-    (sym (c .before .number-of .ensures) ∙ c .if3 .left)
+    (sym (c .before .before .number-of .ensures) ∙ c .before .if3 .left)
 
 enum-told : tie.Need-enum-told Inv-loop μ-loop
 enum-told c = search needs

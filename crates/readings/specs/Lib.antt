@@ -1,0 +1,2 @@
+-- How the texts on standard input are kept apart.
+pub mod Texts

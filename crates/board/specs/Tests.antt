@@ -1,4 +1,4 @@
--- The statements of the model as tests: what the choice of a track and the check of a layout compute. proofs/Tests.antt shows that each
+-- The statements of the model as tests: what the choice of a track and the check of a layout compute. proofs/ExactTests.antt shows that each
 -- test passes exactly if its statement holds.
 use Prim.Native.Nat.{ℕ, zero, suc, _+_, _-_}
 use mathlib.Core.Bool.{Bool, true, not, _&&_, _||_}

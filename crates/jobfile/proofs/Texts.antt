@@ -17,15 +17,17 @@ use Rattle.lines.specs.Tokens.{spaced, lineWords}
 use Rattle.jobfile.specs.declared.Outcome.the-variants.{NotOfForm, OutOfRange, TooMany, NumberNotAbove, PinUsed, SameRow, NoLength, TooFewRows}
 use Rattle.jobfile.specs.Forms.{noWord, ifLast, consNumber, arguments, formFrom, formAfter, formOpened, formOf, readForm}
 use Rattle.jobfile.specs.Read.{start, stop, unless, atStart, atOpened, atSized, atFilled, within, netOf, blockOf, boardOf, emptyBoard, netInRange, blockInRange, lastNumber, pinsFree, addNet, addBlock, step, Read, accepted, refused, ended, follow, readFrom, readJob}
+use Rattle.board.specs.Accepted.{Accepted}
+use Rattle.jobfile.proofs.Accepts.{read-accepted}
 use Rattle.jobfile.proofs.Tests.{read-cases}
 
 -- the bytes of a text of ASCII characters
-abbrev bytes : S.String → List ℕ
+abbrev pub bytes : S.String → List ℕ
 bytes S.[] = []
 bytes (S._∷_ c s) = code c ∷ bytes s
 
 -- what a text is read as
-readAs : S.String → Read
+unfoldable pub readAs : S.String → Read
 unfolding readJob readFrom follow ended step addBlock addNet pinsFree lastNumber blockInRange netInRange within atFilled atSized atOpened atStart unless readForm formOf formOpened formAfter formFrom arguments consNumber ifLast noWord lineWords spaced findWord findFrom number valueFrom nonEmpty pieces joined same needed shortest plainLength span lower upper width allOf
 readAs s = readJob (bytes s)
 
@@ -121,12 +123,18 @@ unfolding readAs
 lengths = (refl, refl, refl, refl, refl, refl)
 
 -- document 01's worked board
-worked-board :
-    readAs
+abbrev pub workedText : S.String
+workedText =
     "(board\n (rows 10)\n (tracks 2)\n (net 1 2 4 7 7)\n (net 2 6 8 11 12)\n (net 3 9 10 6 8)\n (net 4 3 2 6 6)\n (net 5 5 6 6 6)\n (block 2 6 6)\n)\n"
-    ≡ accepted workedJob
+
+pub worked-board : readAs workedText ≡ accepted workedJob
 unfolding readAs
 worked-board = refl
+
+-- so there are accepted jobs: what is shown of them is not empty
+pub worked-accepted : Accepted workedJob
+unfolding readAs
+worked-accepted = read-accepted (bytes workedText) workedJob worked-board
 
 -- n empty lines end early at line n + 1, so 64,000 of them at line 64,001
 empty-from : (n k : ℕ) → readFrom k start (lines (replicate n 10)) ≡ refused (NotOfForm (k + n))

@@ -124,7 +124,7 @@ module _ (job : Job) (t : ℕ) (on-track : 1 ≤ t) where
   pub placement-back : (p : Placement) → Fixed p → placementOf t (p .net) (pointsOn (job .board) t p) ≡ p
   placement-back p f = back (p .net) (p .shape) (p .top) f
 
-  -- theorem A: a drawn wire determines its placement
+  -- a drawn wire determines its placement
   pub drawn-once : (p q : Placement) → Fixed p → Fixed q → p .net ≡ q .net → wireOf (job .board) t p ≡ wireOf (job .board) t q → p ≡ q
   unfolding wireOf
   drawn-once p q f g n e =

@@ -1,4 +1,5 @@
 -- Layouts and their text are the same thing, and so are placements and their drawings.
 pub mod RoundTrip
+pub mod WorkedText
 pub mod DrawnOnce
 pub mod DrawnLength

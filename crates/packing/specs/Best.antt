@@ -1,4 +1,4 @@
--- Document 01, "Choosing a track": best(j), from row H up. Largest.antt in proofs/ shows that it is the largest sum.
+-- Document 01, "Choosing a track": best(j), from row H up. proofs/ByRow.antt shows that it is the largest sum.
 use Prim.Native.Nat.{ℕ, zero, suc, _+_, _-_, max}
 use mathlib.Core.Bool.{cond}
 use mathlib.Core.List.{List, [], _∷_}

@@ -1,5 +1,5 @@
 -- The plan of an accepted job is unbeaten: on every track no rival sequence has a larger sum, with the earlier tracks held. Assumes nothing.
-use Prim.Native.Nat.{ℕ, zero, suc, _+_, _<_}
+use Prim.Native.Nat.{ℕ, zero, suc, _+_, _≤_, _<_}
 use mathlib.Core.Path.{_≡_, refl, ap}
 use mathlib.Core.List.{List, [], _++_, append-assoc, append-nil, List·Memᴰ}
 use native.Mathlib.Omega.{arith}
@@ -12,9 +12,10 @@ use Rattle.board.specs.Unbeaten.{emptyTrack, numbers, numbersOn, Optimal, Unbea
 use Rattle.board.specs.Accepted.{Accepted}
 use Rattle.board.proofs.Tops.{accepted-shortest}
 use Rattle.packing.specs.Best.{best}
-use Rattle.packing.specs.Walk.{wiresOf}
+use Rattle.packing.specs.Walk.{walkFrom, wiresOf}
+use Rattle.packing.specs.Step.{LargestSum, WalkStep}
 use Rattle.packing.proofs.UpperBound.{rival-le-best}
-use Rattle.packing.proofs.ByRow.{best-largest}
+use Rattle.packing.proofs.ByRow.{best-largest, walk-step}
 use Rattle.planning.specs.Plan.{filledTrack, planFrom, planOf}
 
 -- every net of an accepted job is allowed in its shortest shape
@@ -54,3 +55,13 @@ plan-unbeaten job a =
       count = plan-length job allowed (job .board .tracks) 1 [];
       each = λ i h. let e : 1 + i ≡ suc i = omega arith in rw e at (plan-each job allowed (job .board .tracks) 1 [] i h);
     }
+
+-- ---- of an accepted job: best(j) for every row, and the walk's step at every row
+
+pub accepted-best : (job : Job) → Accepted job → (earlier : List ℕ) (t j : ℕ) → j ≤ job .board .rows + 1 →
+    LargestSum job earlier t j (walkFrom job earlier t j) (best job earlier t j)
+accepted-best job a earlier t j h = best-largest job earlier t (all-allowed job a) j h
+
+pub accepted-step : (job : Job) → Accepted job → (earlier : List ℕ) (t j : ℕ) → 1 ≤ j → j ≤ job .board .rows →
+    WalkStep job earlier t (best job earlier t) (walkFrom job earlier t) j
+accepted-step job a earlier t j l h = walk-step job earlier t (all-allowed job a) (a .numbers-rise) j l h

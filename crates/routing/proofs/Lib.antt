@@ -1,3 +1,4 @@
 -- What route writes is sound and unbeaten.
 pub mod RouteSound
 pub mod RouteUnbeaten
+pub mod WorkedLayout

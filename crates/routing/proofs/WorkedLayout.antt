@@ -1,0 +1,37 @@
+-- The text that route writes for document 01's worked board, byte for byte. Assumes nothing.
+use Prim.Native.Nat.{ℕ}
+use Prim.Native.Char.{code}
+use Prim.Native.String as S
+use mathlib.Core.Path.{_≡_, refl, ap, _∙_}
+use mathlib.Core.List.{List, [], _∷_}
+use Rattle.lists.specs.Lists.{anyOf, allOf, firstOf}
+use Rattle.board.specs.Length.{width, upper, lower, span, plainLength, shortest, needed, worth}
+use Rattle.board.specs.Job.{Job, closes, blocked}
+use Rattle.board.specs.Placement.{covered, firstTop, lastTop}
+use Rattle.board.specs.Unbeaten.{numbersOn}
+use Rattle.board.specs.Tests.{clearRows, isOn, isBefore, isReady, isEligible}
+use Rattle.board.proofs.WorkedBoard.{workedJob}
+use Rattle.packing.specs.Fits.{fitsAt}
+use Rattle.packing.specs.Best.{sumWith, bestAt, table, bestLast, best}
+use Rattle.packing.specs.Walk.{reaches, choice, walk, walkFrom, wiresOf}
+use Rattle.planning.specs.Plan.{filledTrack, planFrom, planOf}
+use Rattle.planning.specs.Loose.{without, looseOf}
+use Rattle.text.specs.Digits.{digitsIn, digits}
+use Rattle.layout.specs.LayoutText.{pointsThen, lineText, linesText, wiresThen, tracksThen, looseThen, layoutLines, layoutText}
+use Rattle.layout.specs.Drawing.{viaColumn, wireColumn, samePoint, distinctFrom, nearRow, farRow, corners, pointsOn, wireOf}
+use Rattle.routing.specs.Route.{drawnTracks, routeLayout, routeText}
+
+-- the bytes of a text of ASCII characters
+abbrev bytes : S.String → List ℕ
+bytes S.[] = []
+bytes (S._∷_ c s) = code c ∷ bytes s
+
+-- the text of a job. To unfold this is to unfold all that it computes with
+unfoldable written : Job → List ℕ
+unfolding routeText routeLayout drawnTracks layoutText layoutLines linesText tracksThen wiresThen looseThen lineText pointsThen digits digitsIn wireOf pointsOn corners distinctFrom samePoint nearRow farRow viaColumn wireColumn looseOf without numbersOn planOf planFrom filledTrack wiresOf walkFrom walk choice reaches best bestLast table bestAt fitsAt sumWith firstTop lastTop covered isEligible isReady isBefore isOn clearRows blocked closes worth needed shortest plainLength span upper lower width anyOf allOf firstOf
+written job = routeText job
+
+pub worked-text : routeText workedJob ≡ bytes
+    "(layout\n (track 1 9)\n (wire 1 (0 2) (1 2) (1 4) (5 4))\n (wire 2 (0 6) (1 6) (1 5) (2 5) (2 8) (1 8) (5 8))\n (wire 3 (0 9) (1 9) (1 10) (5 10))\n (track 2 2)\n (wire 4 (0 3) (3 3) (3 2) (5 2))\n (loose 5)\n)\n"
+unfolding written
+worked-text = refl

@@ -17,7 +17,7 @@ use Rattle.text.proofs.Numbers.{allOf-digits, some-digits, value-digits}
 use Rattle.keywords.specs.Keywords.{layoutWord, trackWord, wireWord, looseWord}
 use Rattle.layout.specs.Tree.{Point, Wire, DrawnTrack, Layout, Line, opens, track, wire, loose, closes}
 use Rattle.layout.specs.LayoutText.{pointsThen, lineText, linesText, wiresThen, tracksThen, looseThen, layoutLines, layoutText}
-use Rattle.layout.specs.ReadBack.{words, pointsOf, lineOf, roughLine, Part, add, gathered, roughLayout, smallLine, smallLines, readLine, readLayout}
+use Rattle.layout.specs.ReadBack.{wordsIn, pointsOf, lineFrom, roughLine, Part, add, gathered, roughLayout, smallLine, smallLines, readLine, readLayout}
 
 -- no line holds a byte 10
 
@@ -58,8 +58,8 @@ inner-digit : (d : ℕ) → d < 10 → inner (48 + d) ≡ true
 unfolding inner
 inner-digit d h = rw (ne-eqb (48 + d) 32 (λ e. omega arith), ne-eqb (48 + d) 40 (λ e. omega arith), ne-eqb (48 + d) 41 (λ e. omega arith))
 
-word-then : (n c : ℕ) (rest : List ℕ) → endsWord c ≡ true → words (digits n ++ c ∷ rest) ≡ digits n ∷ words rest
-unfolding words inner
+word-then : (n c : ℕ) (rest : List ℕ) → endsWord c ≡ true → wordsIn (digits n ++ c ∷ rest) ≡ digits n ∷ wordsIn rest
+unfolding wordsIn inner
 word-then n c rest e =
     ap nonEmpty (piece-then endsWord (digits n) c rest (allOf-digits inner inner-digit n) e)
     ∙ nonEmpty-some (digits n) (pieces endsWord rest) (some-digits n)
@@ -68,8 +68,8 @@ pointWords : List Point → List (List ℕ)
 pointWords [] = []
 pointWords (p ∷ ps) = digits (p .column) ∷ digits (p .row) ∷ pointWords ps
 
-words-points : (ps : List Point) → words (pointsThen ps (41 ∷ [])) ≡ pointWords ps
-unfolding pointsThen words pieces nonEmpty joined pointWords
+words-points : (ps : List Point) → wordsIn (pointsThen ps (41 ∷ [])) ≡ pointWords ps
+unfolding pointsThen wordsIn pieces nonEmpty joined pointWords
 words-points [] = refl
 words-points (p ∷ ps) =
     word-then (p .column) 32 (digits (p .row) ++ 41 ∷ pointsThen ps (41 ∷ [])) refl
@@ -77,8 +77,8 @@ words-points (p ∷ ps) =
     (word-then (p .row) 41 (pointsThen ps (41 ∷ [])) refl ∙ ap (λ (ws : List (List ℕ)). digits (p .row) ∷ ws) (words-points ps))
 
 -- where points follow a number, its digits end at their first byte
-after-number : (n : ℕ) (ps : List Point) → words (digits n ++ pointsThen ps (41 ∷ [])) ≡ digits n ∷ pointWords ps
-unfolding pointsThen words pieces nonEmpty joined pointWords
+after-number : (n : ℕ) (ps : List Point) → wordsIn (digits n ++ pointsThen ps (41 ∷ [])) ≡ digits n ∷ pointWords ps
+unfolding pointsThen wordsIn pieces nonEmpty joined pointWords
 after-number n [] = word-then n 41 [] refl
 after-number n (p ∷ ps) =
     word-then n 32 (40 ∷ (digits (p .column) ++ 32 ∷ (digits (p .row) ++ 41 ∷ pointsThen ps (41 ∷ [])))) refl
@@ -98,8 +98,8 @@ lineWords (wire w) = wireWord ∷ digits (w .number) ∷ pointWords (w .points)
 lineWords (loose n) = looseWord ∷ digits n ∷ []
 lineWords closes = []
 
-words-line : (x : Line) → words (lineText x) ≡ lineWords x
-unfolding lineText words pieces nonEmpty joined lineWords
+words-line : (x : Line) → wordsIn (lineText x) ≡ lineWords x
+unfolding lineText wordsIn pieces nonEmpty joined lineWords
 words-line opens = refl
 words-line (track t n) =
     ap (λ (ws : List (List ℕ)). trackWord ∷ ws)
@@ -109,10 +109,10 @@ words-line (loose n) = ap (λ (ws : List (List ℕ)). looseWord ∷ ws) (word-th
 words-line closes = refl
 
 ofWords : List (List ℕ) → Line
-ofWords ws = lineOf (getD ws 0 []) (map (valueFrom 0) (drop 1 ws))
+ofWords ws = lineFrom (getD ws 0 []) (map (valueFrom 0) (drop 1 ws))
 
 of-line-words : (x : Line) → ofWords (lineWords x) ≡ x
-unfolding ofWords lineWords lineOf same
+unfolding ofWords lineWords lineFrom same
 of-line-words opens = refl
 of-line-words (track t n) = rw (value-digits t, value-digits n)
 of-line-words (wire w) = rw (value-digits (w .number), points-back (w .points))

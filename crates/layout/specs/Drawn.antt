@@ -1,18 +1,17 @@
--- The placement that a wire draws, if it draws one: the only one that its points can draw, drawn again and compared.
-use Prim.Native.Nat.{ℕ, _+_, _-_, _/_, min, max}
-use mathlib.Core.Bool.{Bool, true, false, cond, _&&_}
+-- Back from points: the one placement of a net that they can draw on a track; and the net of a number.
+use Prim.Native.Nat.{ℕ, _-_, min, max}
+use mathlib.Core.Bool.{cond}
 use mathlib.Core.Option.{Option, none, some}
 use mathlib.Core.List.{List, [], _∷_}
-use lib.Dec.{eqb, leb}
+use lib.Dec.{eqb}
 use Rattle.lists.specs.Lists.{firstOf}
-use Rattle.board.specs.declared.Board.{Board}
 use Rattle.board.specs.declared.Net.{Net}
 use Rattle.board.specs.declared.Shape.the-variants.{Plain, Stretched}
-use Rattle.board.specs.Length.{upper, lower, span}
+use Rattle.board.specs.Length.{upper, span}
 use Rattle.board.specs.Job.{Job}
-use Rattle.board.specs.Placement.{Placement, bottom}
-use Rattle.layout.specs.Tree.{Point, Wire}
-use Rattle.layout.specs.Drawing.{wireColumn, samePoint, pointsOn}
+use Rattle.board.specs.Placement.{Placement}
+use Rattle.layout.specs.Tree.{Point}
+use Rattle.layout.specs.Drawing.{wireColumn}
 
 -- the row of the first point in column c
 unfoldable pub firstIn : ℕ → List Point → Option ℕ
@@ -34,36 +33,6 @@ placementFrom n ps t (some u) =
 unfoldable pub placementOf : ℕ → Net → List Point → Placement
 placementOf t n ps = placementFrom n ps t (firstIn (wireColumn t) ps)
 
-unfoldable pub samePoints : List Point → List Point → Bool
-samePoints [] [] = true
-samePoints [] (q ∷ qs) = false
-samePoints (p ∷ ps) [] = false
-samePoints (p ∷ ps) (q ∷ qs) = samePoint p q && samePoints ps qs
-
 -- the net with number k
-unfoldable pub netOf : Job → ℕ → Option Net
-netOf job k = firstOf (λ n. eqb (n .number) k) (job .nets)
-
--- the rows that p covers are rows of the board and hold the fixed rows of its net
-unfoldable pub isOnBoard : Board → Placement → Bool
-isOnBoard board p = leb 1 (p .top) && leb (p .top) (upper (p .net)) && leb (lower (p .net)) (bottom p) && leb (bottom p) (board .rows)
-
--- the placement that a wire draws on track t, at any length, if it draws one of its net
-unfoldable pub drawnFrom : Job → ℕ → Wire → Option Net → Option Placement
-drawnFrom job t w none = none
-drawnFrom job t w (some n) =
-    let p = placementOf t n (w .points) in
-    cond (isOnBoard (job .board) p && samePoints (pointsOn (job .board) t p) (w .points)) (some p) none
-
-unfoldable pub drawnBy : Job → ℕ → Wire → Option Placement
-drawnBy job t w = drawnFrom job t w (netOf job (w .number))
-
--- the track in whose via column the second point stands
-unfoldable pub trackDrawn : List Point → ℕ
-trackDrawn [] = 0
-trackDrawn (p ∷ []) = 0
-trackDrawn (p ∷ q ∷ ps) = (q .column + 1) / 2
-
--- the placement that a wire draws on a track of the board, whichever it is: it covers the rows of that
-unfoldable pub coversOf : Job → Wire → Option Placement
-coversOf job w = let t = trackDrawn (w .points) in cond (leb 1 t && leb t (job .board .tracks)) (drawnBy job t w) none
+unfoldable pub netNumbered : Job → ℕ → Option Net
+netNumbered job k = firstOf (λ n. eqb (n .number) k) (job .nets)

@@ -14,23 +14,23 @@ use Rattle.layout.specs.LayoutText.{lineText, layoutLines, layoutText}
 -- Reading. A line is taken apart by its words alone, whatever stands between them; what was read counts only if its rendering is the text.
 
 -- the words of a line: what stands between spaces and brackets
-unfoldable pub words : List ℕ → List (List ℕ)
-words s = nonEmpty (pieces endsWord s)
+unfoldable pub wordsIn : List ℕ → List (List ℕ)
+wordsIn s = nonEmpty (pieces endsWord s)
 
 unfoldable pub pointsOf : List ℕ → List Point
 pointsOf [] = []
 pointsOf (c ∷ []) = []
 pointsOf (c ∷ r ∷ ns) = record { column = c; row = r } ∷ pointsOf ns
 
-unfoldable pub lineOf : List ℕ → List ℕ → Line
-lineOf w ns =
+unfoldable pub lineFrom : List ℕ → List ℕ → Line
+lineFrom w ns =
     cond (same w layoutWord) opens
     (cond (same w trackWord) (track (getD ns 0 0) (getD ns 1 0))
     (cond (same w wireWord) (wire (record { number = getD ns 0 0; points = pointsOf (drop 1 ns) }))
     (cond (same w looseWord) (loose (getD ns 0 0)) closes)))
 
 unfoldable pub roughLine : List ℕ → Line
-roughLine s = let ws = words s in lineOf (getD ws 0 []) (map (valueFrom 0) (drop 1 ws))
+roughLine s = let ws = wordsIn s in lineFrom (getD ws 0 []) (map (valueFrom 0) (drop 1 ws))
 
 -- what a list of lines holds: wires before the first track, tracks, loose nets
 pub record Part : Type 0 where

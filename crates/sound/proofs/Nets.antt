@@ -17,7 +17,7 @@ use Rattle.board.specs.Rival.{rivalSum, worthSum}
 use Rattle.board.specs.Unbeaten.{numbers}
 use Rattle.board.proofs.SameNumber.{same-number}
 use Rattle.layout.specs.Drawing.{wireOf}
-use Rattle.layout.specs.Drawn.{netOf}
+use Rattle.layout.specs.Drawn.{netNumbered}
 use Rattle.sound.specs.Wires.{worthBy, worthOf, sumOver, wireNumbers, wiresSum}
 
 pub wire-numbers : (job : Job) (t : ℕ) (ps : List Placement) → wireNumbers (map (wireOf (job .board) t) ps) ≡ numbers ps
@@ -25,15 +25,15 @@ unfolding wireOf
 wire-numbers job t [] = refl
 wire-numbers job t (p ∷ ps) = ap (λ (l : List ℕ). p .net .number ∷ l) (wire-numbers job t ps)
 
-pub net-some : (job : Job) (k : ℕ) (n : Net) → netOf job k ≡ some n → (List·Memᴰ n (job .nets)) × (n .number ≡ k)
-unfolding netOf
+pub net-some : (job : Job) (k : ℕ) (n : Net) → netNumbered job k ≡ some n → (List·Memᴰ n (job .nets)) × (n .number ≡ k)
+unfolding netNumbered
 net-some job k n h = let f = firstOf-some (λ m. eqb (m .number) k) (job .nets) n h in (f .0, eqb-true (n .number) k (f .1))
 
 module _ (job : Job) (rise : EachPair (λ a b. a .number < b .number) (job .nets)) where
-  pub net-of : (n : Net) → List·Memᴰ n (job .nets) → netOf job (n .number) ≡ some n
-  unfolding netOf
+  pub net-of : (n : Net) → List·Memᴰ n (job .nets) → netNumbered job (n .number) ≡ some n
+  unfolding netNumbered
   net-of n i =
-      by-option (netOf job (n .number))
+      by-option (netNumbered job (n .number))
       (λ e. absurd (true≢false (sym (eq-eqb (n .number) (n .number) refl) ∙ firstOf-none (λ m. eqb (m .number) (n .number)) (job .nets) n e i)))
       (λ m e. let f = net-some job (n .number) m e in e ∙ ap some (same-number (job .nets) rise m n (f .0) i (f .1)))
 

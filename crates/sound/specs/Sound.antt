@@ -16,7 +16,7 @@ use Rattle.sound.specs.Wires.{wireNumbers, lineNumbers, wiresSum}
 
 -- p is a placement of a net of the job at an allowed length, clear of blocks on track t, and every net that precedes its net
 -- stands on an earlier track
-pub record Placed (job : Job) (earlier : List ℕ) (t : ℕ) (p : Placement) : Type 0 where
+pub record SoundPlacement (job : Job) (earlier : List ℕ) (t : ℕ) (p : Placement) : Type 0 where
   pub of-job : List·Memᴰ (p .net) (job .nets)
   pub legal : Legal (job .board) p
   pub clear : Clear job t p
@@ -27,7 +27,7 @@ pub record SoundTrack (job : Job) (earlier : List ℕ) (t : ℕ) (tr : DrawnTrac
   pub number : tr .track ≡ t
   pub places : List Placement
   pub drawn : tr .wires ≡ map (wireOf (job .board) t) places
-  pub placed : Each (Placed job earlier t) places
+  pub placed : Each (SoundPlacement job earlier t) places
   pub rising : EachPair (λ p q. p .top < q .top) places
   pub apart : EachPair Apart places
   pub sum-is : wiresSum job (tr .wires) ≡ tr .sum

@@ -10,7 +10,7 @@ use Rattle.board.specs.Placement.{Placement}
 use Rattle.board.specs.Rival.{Rival}
 use Rattle.layout.specs.Tree.{Wire, DrawnTrack, Layout}
 use Rattle.layout.specs.Drawing.{wireOf}
-use Rattle.layout.specs.Drawn.{netOf}
+use Rattle.layout.specs.Drawn.{netNumbered}
 
 -- the wires ws are a rival sequence for track t, where the nets with the numbers `earlier` stand on earlier tracks
 pub record RivalWires (job : Job) (earlier : List ℕ) (t : ℕ) (ws : List Wire) : Type 0 where
@@ -24,7 +24,7 @@ worthBy job none = 0
 worthBy job (some n) = worth (job .board) n
 
 unfoldable pub worthOf : Job → ℕ → ℕ
-worthOf job k = worthBy job (netOf job k)
+worthOf job k = worthBy job (netNumbered job k)
 
 -- a sum over numbers
 unfoldable pub sumOver : (ℕ → ℕ) → List ℕ → ℕ

@@ -5,7 +5,7 @@ use mathlib.Core.Bool.{true, false}
 use mathlib.Core.List.{List, [], _∷_, _++_, append-assoc, append-nil}
 use native.Mathlib.Omega.{arith}
 use lib.ListN.{length, length-append, take-append-drop}
-use Rattle.text.specs.Written.{WrittenAt}
+use Rattle.text.specs.Written.{Written, WrittenAt}
 use Rattle.text.specs.Digits.{digits}
 use Rattle.keywords.specs.Keywords.{wordOf}
 use Rattle.keywords.specs.declared.Vocabulary.the-variants.{Layout}
@@ -52,3 +52,7 @@ pub stretched-parts : (c w l r u v : ℕ) → pinText l (stretchedPath c w l r u
     nextText (at c r) (at w r)
 unfolding pinText pathText threeText
 stretched-parts c w l r u v = simp (append-assoc, append-nil)
+
+-- what stands from place 0 on stands at the start
+pub from-start : {w s t : List ℕ} {r : ℕ} → WrittenAt 0 w s t r → Written w s t r
+from-start v = record { used = omega (arith, v .next); bytes = v .bytes }

@@ -2,7 +2,7 @@
 ghost use mathlib.Core.Path.{_≡_};
 ghost use Prim.Native.Nat.{_+_, _≤_, _<_};
 ghost use lib.ListN.{length};
-ghost use Rattle.text.specs.Written.{WrittenAt};
+ghost use Rattle.text.specs.Written.{Written, WrittenAt};
 ghost use Rattle.layout.specs.Drawing.{samePoint};
 ghost use Rattle.writer.specs.Lines.{headText, pointText, nextText, threeText, pinText, plainPath, stretchedPath, pointsText, wireLine, Drawable, endedLine};
 ghost use Rattle.layout.specs.Tree.{opens as openingLine, track as trackLine, loose as looseLine, closes as closingLine};
@@ -145,7 +145,67 @@ fn put_points(
     }
 }
 
+// The line writers: each writes its line at the start of the rest of the buffer that it is lent, and returns the bytes used.
+
 // Writes the line of a wire.
+pub fn wire_line(
+    out: &mut [u8],
+    board: Board,
+    track: Track,
+    net: Net,
+    shape: Shape,
+    top: Row,
+) -> usize
+    requires { ⌜ Drawable board track net shape top ⌝ }
+    requires { ⌜ length (wireLine board track net shape top) ≤ length (now out) ⌝ }
+    ensures { λ e. ⌜ Written (wireLine board track net shape top) (now (out .entry)) (now (out .exit)) e ⌝ }
+{
+    let number = net.number;
+    let a = put_head(out, 0, 2, number);
+    let b = put_points(out, a, board, track, net, shape, top);
+    text::put_bytes_at(out, b, b")\n")
+}
+
+// Writes the line of a track: its number and its sum.
+pub fn track_line(out: &mut [u8], track: Track, sum: usize) -> usize
+    requires { ⌜ length (endedLine (trackLine (track .0) sum)) ≤ length (now out) ⌝ }
+    ensures { λ e. ⌜ Written (endedLine (trackLine (track .0) sum)) (now (out .entry)) (now (out .exit)) e ⌝ }
+{
+    let t = track.0;
+    let a = put_head(out, 0, 1, t);
+    let b = text::put_spaced(out, a, sum);
+    text::put_bytes_at(out, b, b")\n")
+}
+
+// Writes the line of a loose net.
+pub fn loose_line(out: &mut [u8], number: usize) -> usize
+    requires { ⌜ length (endedLine (looseLine number)) ≤ length (now out) ⌝ }
+    ensures { λ e. ⌜ Written (endedLine (looseLine number)) (now (out .entry)) (now (out .exit)) e ⌝ }
+{
+    let a = put_head(out, 0, 3, number);
+    text::put_bytes_at(out, a, b")\n")
+}
+
+// Writes the first line, "(layout".
+pub fn opening_line(out: &mut [u8]) -> usize
+    requires { ⌜ length (endedLine openingLine) ≤ length (now out) ⌝ }
+    ensures { λ e. ⌜ Written (endedLine openingLine) (now (out .entry)) (now (out .exit)) e ⌝ }
+{
+    let a = text::put_bytes_at(out, 0, b"(");
+    let b = keywords::put_word_at(out, a, Vocabulary::Layout, 0);
+    text::put_bytes_at(out, b, b"\n")
+}
+
+// Writes the last line, ")".
+pub fn closing_line(out: &mut [u8]) -> usize
+    requires { ⌜ length (endedLine closingLine) ≤ length (now out) ⌝ }
+    ensures { λ e. ⌜ Written (endedLine closingLine) (now (out .entry)) (now (out .exit)) e ⌝ }
+{
+    text::put_bytes(out, b")\n")
+}
+
+// The same with a place: the rest of the buffer from there on is lent to the line writer. Each returns the next place.
+
 pub fn put_wire(
     out: &mut [u8],
     at: usize,
@@ -159,46 +219,33 @@ pub fn put_wire(
     requires { ⌜ at + length (wireLine board track net shape top) ≤ length (now out) ⌝ }
     ensures { λ e. ⌜ WrittenAt at (wireLine board track net shape top) (now (out .entry)) (now (out .exit)) e ⌝ }
 {
-    let number = net.number;
-    let a = put_head(out, at, 2, number);
-    let b = put_points(out, a, board, track, net, shape, top);
-    text::put_bytes_at(out, b, b")\n")
+    at + wire_line(&mut out[at..], board, track, net, shape, top)
 }
 
-// Writes the line of a track: its number and its sum.
 pub fn put_track(out: &mut [u8], at: usize, track: Track, sum: usize) -> usize
     requires { ⌜ at + length (endedLine (trackLine (track .0) sum)) ≤ length (now out) ⌝ }
     ensures { λ e. ⌜ WrittenAt at (endedLine (trackLine (track .0) sum)) (now (out .entry)) (now (out .exit)) e ⌝ }
 {
-    let t = track.0;
-    let a = put_head(out, at, 1, t);
-    let b = text::put_spaced(out, a, sum);
-    text::put_bytes_at(out, b, b")\n")
+    at + track_line(&mut out[at..], track, sum)
 }
 
-// Writes the line of a loose net.
 pub fn put_loose(out: &mut [u8], at: usize, number: usize) -> usize
     requires { ⌜ at + length (endedLine (looseLine number)) ≤ length (now out) ⌝ }
     ensures { λ e. ⌜ WrittenAt at (endedLine (looseLine number)) (now (out .entry)) (now (out .exit)) e ⌝ }
 {
-    let a = put_head(out, at, 3, number);
-    text::put_bytes_at(out, a, b")\n")
+    at + loose_line(&mut out[at..], number)
 }
 
-// Writes the first line, "(layout".
 pub fn put_opening(out: &mut [u8], at: usize) -> usize
     requires { ⌜ at + length (endedLine openingLine) ≤ length (now out) ⌝ }
     ensures { λ e. ⌜ WrittenAt at (endedLine openingLine) (now (out .entry)) (now (out .exit)) e ⌝ }
 {
-    let a = text::put_bytes_at(out, at, b"(");
-    let b = keywords::put_word_at(out, a, Vocabulary::Layout, 0);
-    text::put_bytes_at(out, b, b"\n")
+    at + opening_line(&mut out[at..])
 }
 
-// Writes the last line, ")".
 pub fn put_closing(out: &mut [u8], at: usize) -> usize
     requires { ⌜ at + length (endedLine closingLine) ≤ length (now out) ⌝ }
     ensures { λ e. ⌜ WrittenAt at (endedLine closingLine) (now (out .entry)) (now (out .exit)) e ⌝ }
 {
-    text::put_bytes_at(out, at, b")\n")
+    at + closing_line(&mut out[at..])
 }

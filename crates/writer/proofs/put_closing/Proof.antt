@@ -1,29 +1,38 @@
--- `writer::put_closing` meets its contract: one write. Assumes nothing.
-use mathlib.Core.List.{[], _∷_, _++_}
-use native.Mathlib.Omega.{arith}
-use Rattle.text.proofs.Writing.{lengths, kept-at, chain-at}
-use Rattle.writer.proofs.Lines.{closing-parts}
+-- `writer::put_closing` meets its contract: what the rest of the buffer took stands at the place. Assumes nothing.
+use Rattle.text.proofs.Writing.{at-rest}
 use borrow.Author.Needs.{needs}
 use Rattle.writer.proofs.put_closing.Statement.{statement}
 use Rattle.writer.proofs.put_closing.Tie as tie
 
-slice-aggregate-put-bytes-at : tie.Need-slice-aggregate-put-bytes-at
-slice-aggregate-put-bytes-at c = search needs
+sub-closing-line : tie.Need-sub-closing-line
+sub-closing-line c = search needs
 
-put-bytes-at-requires : tie.Need-put-bytes-at-requires
-put-bytes-at-requires c κs = omega (arith, rw closing-parts at (c .before .before .before .pre))
+part-closing-line-start : tie.Need-part-closing-line-start
+part-closing-line-start c = search needs
+
+part-closing-line-end : tie.Need-part-closing-line-end
+part-closing-line-end c = search needs
+
+closing-line-requires : tie.Need-closing-line-requires
+closing-line-requires c κs = search needs
+
+add-result : tie.Need-add-result
+add-result c = search needs
 
 same-length : tie.Need-same-length
 same-length c = search needs
 
 returns : tie.Need-returns
-returns c = rw closing-parts (c .before .before .put-bytes-at .ensures)
+returns c = at-rest _ _ _ _ _ (c .before .before .closing-line .ensures)
 
 pub put-closing-spec : {M : Type 1} → statement M
 put-closing-spec =
     tie.close
     (tie.spec
-    slice-aggregate-put-bytes-at
-    put-bytes-at-requires
+    sub-closing-line
+    part-closing-line-start
+    part-closing-line-end
+    closing-line-requires
+    add-result
     same-length
     returns)

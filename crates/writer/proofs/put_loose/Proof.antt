@@ -1,38 +1,38 @@
--- `writer::put_loose` meets its contract: two writes in a row. Assumes nothing.
-use mathlib.Core.List.{[], _∷_, _++_}
-use native.Mathlib.Omega.{arith}
-use Rattle.text.proofs.Writing.{lengths, kept-at, chain-at}
-use Rattle.writer.proofs.Lines.{loose-parts}
+-- `writer::put_loose` meets its contract: what the rest of the buffer took stands at the place. Assumes nothing.
+use Rattle.text.proofs.Writing.{at-rest}
 use borrow.Author.Needs.{needs}
 use Rattle.writer.proofs.put_loose.Statement.{statement}
 use Rattle.writer.proofs.put_loose.Tie as tie
 
-put-head-requires : tie.Need-put-head-requires
-put-head-requires c κs = (omega arith, omega (arith, simp lengths at (rw (loose-parts (c .before .before .args .number)) at (c .before .before .pre))))
+sub-loose-line : tie.Need-sub-loose-line
+sub-loose-line c = search needs
 
-slice-aggregate-put-bytes-at : tie.Need-slice-aggregate-put-bytes-at
-slice-aggregate-put-bytes-at c = search needs
+part-loose-line-start : tie.Need-part-loose-line-start
+part-loose-line-start c = search needs
 
-put-bytes-at-requires : tie.Need-put-bytes-at-requires
-put-bytes-at-requires c κs =
-    let h = simp lengths at (rw (loose-parts (c .before .before .before .before .before .before .before .args .number)) at (c .before .before .before .before .before .before .before .pre)) in
-    let w = c .before .before .before .before .put-head .ensures in
-    omega (arith, w .next, kept-at w (omega arith))
+part-loose-line-end : tie.Need-part-loose-line-end
+part-loose-line-end c = search needs
+
+loose-line-requires : tie.Need-loose-line-requires
+loose-line-requires c κs = search needs
+
+add-result : tie.Need-add-result
+add-result c = search needs
 
 same-length : tie.Need-same-length
 same-length c = search needs
 
 returns : tie.Need-returns
-returns c =
-    let h = simp lengths at (rw (loose-parts (c .before .before .before .before .before .before .before .before .before .before .args .number)) at (c .before .before .before .before .before .before .before .before .before .before .pre)) in
-    rw (loose-parts (c .before .before .before .before .before .before .before .before .before .before .args .number)) (chain-at (omega arith) (c .before .before .before .before .before .before .before .put-head .ensures) (c .before .before .put-bytes-at .ensures))
+returns c = at-rest _ _ _ _ _ (c .before .before .loose-line .ensures)
 
 pub put-loose-spec : {M : Type 1} → statement M
 put-loose-spec =
     tie.close
     (tie.spec
-    put-head-requires
-    slice-aggregate-put-bytes-at
-    put-bytes-at-requires
+    sub-loose-line
+    part-loose-line-start
+    part-loose-line-end
+    loose-line-requires
+    add-result
     same-length
     returns)

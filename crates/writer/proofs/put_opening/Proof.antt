@@ -1,50 +1,38 @@
--- `writer::put_opening` meets its contract: three writes in a row. Assumes nothing.
-use mathlib.Core.List.{[], _∷_, _++_}
-use native.Mathlib.Omega.{arith}
-use Rattle.text.proofs.Writing.{lengths, kept-at, chain-at}
-use Rattle.writer.proofs.Lines.{opening-parts}
+-- `writer::put_opening` meets its contract: what the rest of the buffer took stands at the place. Assumes nothing.
+use Rattle.text.proofs.Writing.{at-rest}
 use borrow.Author.Needs.{needs}
 use Rattle.writer.proofs.put_opening.Statement.{statement}
 use Rattle.writer.proofs.put_opening.Tie as tie
 
-slice-aggregate-put-bytes-at : tie.Need-slice-aggregate-put-bytes-at
-slice-aggregate-put-bytes-at c = search needs
+sub-opening-line : tie.Need-sub-opening-line
+sub-opening-line c = search needs
 
-put-bytes-at-requires : tie.Need-put-bytes-at-requires
-put-bytes-at-requires c κs = omega (arith, simp lengths at (rw opening-parts at (c .before .before .before .pre)))
+part-opening-line-start : tie.Need-part-opening-line-start
+part-opening-line-start c = search needs
 
-put-word-at-requires : tie.Need-put-word-at-requires
-put-word-at-requires c κs =
-    let h = simp lengths at (rw opening-parts at (c .before .before .before .before .before .before .before .pre)) in
-    let w = c .before .before .before .put-bytes-at .ensures in
-    (omega arith, omega (arith, w .next, kept-at w (omega arith)))
+part-opening-line-end : tie.Need-part-opening-line-end
+part-opening-line-end c = search needs
 
-slice-aggregate-put-bytes-at-2 : tie.Need-slice-aggregate-put-bytes-at-2
-slice-aggregate-put-bytes-at-2 c = search needs
+opening-line-requires : tie.Need-opening-line-requires
+opening-line-requires c κs = search needs
 
-put-bytes-at-requires-2 : tie.Need-put-bytes-at-requires-2
-put-bytes-at-requires-2 c κs =
-    let h = simp lengths at (rw opening-parts at (c .before .before .before .before .before .before .before .before .before .before .before .before .pre)) in
-    let w = chain-at (omega arith) (c .before .before .before .before .before .before .before .before .put-bytes-at .ensures) (c .before .before .before .before .put-word-at .ensures) in
-    omega (arith, simp lengths at (w .next), kept-at w (simp lengths (omega arith)))
+add-result : tie.Need-add-result
+add-result c = search needs
 
 same-length : tie.Need-same-length
 same-length c = search needs
 
 returns : tie.Need-returns
-returns c =
-    let h = simp lengths at (rw opening-parts at (c .before .before .before .before .before .before .before .before .before .before .before .before .before .before .before .pre)) in
-    let w = chain-at (omega arith) (c .before .before .before .before .before .before .before .before .before .before .before .put-bytes-at .ensures) (c .before .before .before .before .before .before .before .put-word-at .ensures) in
-    rw opening-parts (chain-at (simp lengths (omega arith)) w (c .before .before .put-bytes-at2 .ensures))
+returns c = at-rest _ _ _ _ _ (c .before .before .opening-line .ensures)
 
 pub put-opening-spec : {M : Type 1} → statement M
 put-opening-spec =
     tie.close
     (tie.spec
-    slice-aggregate-put-bytes-at
-    put-bytes-at-requires
-    put-word-at-requires
-    slice-aggregate-put-bytes-at-2
-    put-bytes-at-requires-2
+    sub-opening-line
+    part-opening-line-start
+    part-opening-line-end
+    opening-line-requires
+    add-result
     same-length
     returns)

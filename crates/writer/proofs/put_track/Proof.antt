@@ -1,46 +1,38 @@
--- `writer::put_track` meets its contract: three writes in a row. Assumes nothing.
-use mathlib.Core.List.{[], _∷_, _++_}
-use native.Mathlib.Omega.{arith}
-use Rattle.text.proofs.Writing.{lengths, kept-at, chain-at}
-use Rattle.writer.proofs.Lines.{track-parts}
+-- `writer::put_track` meets its contract: what the rest of the buffer took stands at the place. Assumes nothing.
+use Rattle.text.proofs.Writing.{at-rest}
 use borrow.Author.Needs.{needs}
 use Rattle.writer.proofs.put_track.Statement.{statement}
 use Rattle.writer.proofs.put_track.Tie as tie
 
-put-head-requires : tie.Need-put-head-requires
-put-head-requires c κs = (omega arith, omega (arith, simp lengths at (rw (track-parts (c .before .before .args .track .0) (c .before .before .args .sum)) at (c .before .before .pre))))
+sub-track-line : tie.Need-sub-track-line
+sub-track-line c = search needs
 
-put-spaced-requires : tie.Need-put-spaced-requires
-put-spaced-requires c κs =
-    let h = simp lengths at (rw (track-parts (c .before .before .before .before .before .before .args .track .0) (c .before .before .before .before .before .before .args .sum)) at (c .before .before .before .before .before .before .pre)) in
-    let w = c .before .before .before .put-head .ensures in
-    omega (arith, w .next, kept-at w (omega arith))
+part-track-line-start : tie.Need-part-track-line-start
+part-track-line-start c = search needs
 
-slice-aggregate-put-bytes-at : tie.Need-slice-aggregate-put-bytes-at
-slice-aggregate-put-bytes-at c = search needs
+part-track-line-end : tie.Need-part-track-line-end
+part-track-line-end c = search needs
 
-put-bytes-at-requires : tie.Need-put-bytes-at-requires
-put-bytes-at-requires c κs =
-    let h = simp lengths at (rw (track-parts (c .before .before .before .before .before .before .before .before .before .before .before .args .track .0) (c .before .before .before .before .before .before .before .before .before .before .before .args .sum)) at (c .before .before .before .before .before .before .before .before .before .before .before .pre)) in
-    let w = chain-at (omega arith) (c .before .before .before .before .before .before .before .before .put-head .ensures) (c .before .before .before .before .put-spaced .ensures) in
-    omega (arith, simp lengths at (w .next), kept-at w (simp lengths (omega arith)))
+track-line-requires : tie.Need-track-line-requires
+track-line-requires c κs = search needs
+
+add-result : tie.Need-add-result
+add-result c = search needs
 
 same-length : tie.Need-same-length
 same-length c = search needs
 
 returns : tie.Need-returns
-returns c =
-    let h = simp lengths at (rw (track-parts (c .before .before .before .before .before .before .before .before .before .before .before .before .before .before .args .track .0) (c .before .before .before .before .before .before .before .before .before .before .before .before .before .before .args .sum)) at (c .before .before .before .before .before .before .before .before .before .before .before .before .before .before .pre)) in
-    let w = chain-at (omega arith) (c .before .before .before .before .before .before .before .before .before .before .before .put-head .ensures) (c .before .before .before .before .before .before .before .put-spaced .ensures) in
-    rw (track-parts (c .before .before .before .before .before .before .before .before .before .before .before .before .before .before .args .track .0) (c .before .before .before .before .before .before .before .before .before .before .before .before .before .before .args .sum)) (chain-at (simp lengths (omega arith)) w (c .before .before .put-bytes-at .ensures))
+returns c = at-rest _ _ _ _ _ (c .before .before .track-line .ensures)
 
 pub put-track-spec : {M : Type 1} → statement M
 put-track-spec =
     tie.close
     (tie.spec
-    put-head-requires
-    put-spaced-requires
-    slice-aggregate-put-bytes-at
-    put-bytes-at-requires
+    sub-track-line
+    part-track-line-start
+    part-track-line-end
+    track-line-requires
+    add-result
     same-length
     returns)

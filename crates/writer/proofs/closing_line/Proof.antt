@@ -1,0 +1,22 @@
+-- `writer::closing_line` meets its contract: one write. Assumes nothing.
+use native.Mathlib.Omega.{arith}
+use Rattle.writer.proofs.Lines.{closing-parts}
+use borrow.Author.Needs.{needs}
+use Rattle.writer.proofs.closing_line.Statement.{statement}
+use Rattle.writer.proofs.closing_line.Tie as tie
+
+slice-aggregate-put-bytes : tie.Need-slice-aggregate-put-bytes
+slice-aggregate-put-bytes c = search needs
+
+put-bytes-requires : tie.Need-put-bytes-requires
+put-bytes-requires c κs = omega (arith, rw closing-parts at (c .before .before .before .pre))
+
+same-length : tie.Need-same-length
+same-length c = search needs
+
+returns : tie.Need-returns
+returns c = rw closing-parts (c .before .before .put-bytes .ensures)
+
+pub closing-line-spec : {M : Type 1} → statement M
+closing-line-spec =
+    tie.close (tie.spec slice-aggregate-put-bytes put-bytes-requires same-length returns)

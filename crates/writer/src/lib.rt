@@ -67,15 +67,27 @@ fn put_three(out: &mut [u8], at: usize, p: Point, q: Point, r: Point, s: Point) 
 }
 
 // Writes the points of a plain wire: via column c, right pins in column w, pins at rows l and r.
-fn put_plain(out: &mut [u8], at: usize, c: usize, w: usize, l: usize, r: usize) -> usize
-    requires { ⌜ at + length (pinText l (plainPath c w l r)) ≤ length (now out) ⌝ }
-    ensures { λ e. ⌜ WrittenAt at (pinText l (plainPath c w l r)) (now (out .entry)) (now (out .exit)) e ⌝ }
+fn put_plain(out: &mut [u8], at: usize, c: usize, w: usize, l: Row, r: Row) -> usize
+    requires { ⌜ at + length (pinText (l .0) (plainPath c w (l .0) (r .0))) ≤ length (now out) ⌝ }
+    ensures { λ e. ⌜ WrittenAt at (pinText (l .0) (plainPath c w (l .0) (r .0))) (now (out .entry)) (now (out .exit)) e ⌝ }
 {
-    let pin = Point { column: 0, row: l };
+    let pin = Point {
+        column: 0,
+        row: l.0,
+    };
     let a = put_point(out, at, pin);
-    let p = Point { column: c, row: l };
-    let q = Point { column: c, row: r };
-    let s = Point { column: w, row: r };
+    let p = Point {
+        column: c,
+        row: l.0,
+    };
+    let q = Point {
+        column: c,
+        row: r.0,
+    };
+    let s = Point {
+        column: w,
+        row: r.0,
+    };
     put_three(out, a, pin, p, q, s)
 }
 
@@ -85,31 +97,49 @@ fn put_stretched(
     at: usize,
     c: usize,
     w: usize,
-    l: usize,
-    r: usize,
-    u: usize,
-    v: usize,
+    l: Row,
+    r: Row,
+    u: Row,
+    v: Row,
 ) -> usize
-    requires { ⌜ (c ≤ 1024) × (at + length (pinText l (stretchedPath c w l r u v)) ≤ length (now out)) ⌝ }
-    ensures { λ e. ⌜ WrittenAt at (pinText l (stretchedPath c w l r u v)) (now (out .entry)) (now (out .exit)) e ⌝ }
+    requires { ⌜ (c ≤ 1024) × (at + length (pinText (l .0) (stretchedPath c w (l .0) (r .0) (u .0) (v .0))) ≤ length (now out)) ⌝ }
+    ensures { λ e. ⌜ WrittenAt at (pinText (l .0) (stretchedPath c w (l .0) (r .0) (u .0) (v .0))) (now (out .entry)) (now (out .exit)) e ⌝ }
 {
-    let pin = Point { column: 0, row: l };
+    let pin = Point {
+        column: 0,
+        row: l.0,
+    };
     let a = put_point(out, at, pin);
-    let p1 = Point { column: c, row: l };
-    let p2 = Point { column: c, row: u };
+    let p1 = Point {
+        column: c,
+        row: l.0,
+    };
+    let p2 = Point {
+        column: c,
+        row: u.0,
+    };
     let p3 = Point {
         column: c + 1,
-        row: u,
+        row: u.0,
     };
     let b = put_three(out, a, pin, p1, p2, p3);
     let p4 = Point {
         column: c + 1,
-        row: v,
+        row: v.0,
     };
-    let p5 = Point { column: c, row: v };
-    let p6 = Point { column: c, row: r };
+    let p5 = Point {
+        column: c,
+        row: v.0,
+    };
+    let p6 = Point {
+        column: c,
+        row: r.0,
+    };
     let d = put_three(out, b, p3, p4, p5, p6);
-    let p7 = Point { column: w, row: r };
+    let p7 = Point {
+        column: w,
+        row: r.0,
+    };
     put_next(out, d, p6, p7)
 }
 
@@ -129,17 +159,14 @@ fn put_points(
 {
     let w = board::width(board);
     let c = 2 * track.0 - 1;
-    let l = net.left.0;
-    let r = net.right.0;
-    let u = top.0;
     match shape {
-        Shape::Plain => put_plain(out, at, c, w, l, r),
+        Shape::Plain => put_plain(out, at, c, w, net.left, net.right),
         Shape::Stretched(e) => {
-            let v = u + board::span(net) + e;
-            if l < r {
-                put_stretched(out, at, c, w, l, r, u, v)
+            let bottom = Row(top.0 + board::span(net) + e);
+            if net.left.0 < net.right.0 {
+                put_stretched(out, at, c, w, net.left, net.right, top, bottom)
             } else {
-                put_stretched(out, at, c, w, l, r, v, u)
+                put_stretched(out, at, c, w, net.left, net.right, bottom, top)
             }
         }
     }

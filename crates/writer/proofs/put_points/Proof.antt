@@ -40,43 +40,41 @@ enum-known-shape c = search needs
 span-requires : tie.Need-span-requires
 span-requires c κs = search needs
 
-add-v : tie.Need-add-v
-add-v c =
-    let a = c .before .before .before .before .before .before .before .args in
-    let p = c .before .before .before .before .before .before .before .pre .0 in
-    let e : a .shape ≡ Stretched (c .before .before .shape .given .0 .0) = c .before .before .shape .given .1 in
-    let x : extra (a .shape) ≡ c .before .before .shape .given .0 .0 = ap extra e in
-    omega (arith, c .span .ensures, fixed-rows (a .board) (a .net) (p .net-range), p .board-range, p .stretch-range, p .top-range)
+add-t17 : tie.Need-add-t17
+add-t17 c =
+    let a = c .before .before .before .before .before .before .before .before .args in
+    let p = c .before .before .before .before .before .before .before .before .pre .0 in
+    let e : a .shape ≡ Stretched (c .before .before .before .shape .given .0 .0) = c .before .before .before .shape .given .1 in
+    let x : extra (a .shape) ≡ c .before .before .before .shape .given .0 .0 = ap extra e in
+    omega (arith, c .before .span .ensures, fixed-rows (a .board) (a .net) (p .net-range), p .board-range, p .stretch-range, p .top-range)
 
-add-v-2 : tie.Need-add-v-2
-add-v-2 c =
-    let a = c .before .before .before .before .before .before .before .args in
-    let p = c .before .before .before .before .before .before .before .pre .0 in
-    let e : a .shape ≡ Stretched (c .before .before .shape .given .0 .0) = c .before .before .shape .given .1 in
-    let x : extra (a .shape) ≡ c .before .before .shape .given .0 .0 = ap extra e in
-    omega (arith, c .span .ensures, fixed-rows (a .board) (a .net) (p .net-range), p .board-range, p .stretch-range, p .top-range)
+add-t18 : tie.Need-add-t18
+add-t18 c =
+    let a = c .before .before .before .before .before .before .before .before .args in
+    let p = c .before .before .before .before .before .before .before .before .pre .0 in
+    let e : a .shape ≡ Stretched (c .before .before .before .shape .given .0 .0) = c .before .before .before .shape .given .1 in
+    let x : extra (a .shape) ≡ c .before .before .before .shape .given .0 .0 = ap extra e in
+    omega (arith, c .before .span .ensures, fixed-rows (a .board) (a .net) (p .net-range), p .board-range, p .stretch-range, p .top-range)
 
 put-stretched-requires : tie.Need-put-stretched-requires
 put-stretched-requires c κs =
-    let a = c .before .before .before .before .before .before .before .before .before .args in
-    let p = c .before .before .before .before .before .before .before .before .before .pre .0 in
-    let k = c .before .before .before .before .shape .given .0 .0 in
-    let e : a .shape ≡ Stretched k = c .before .before .before .before .shape .given .1 in
-    let h : a .at + length (pointsText (a .board) (a .track) (a .net) (a .shape) (a .top)) ≤ length (now (a .out)) = c .before .before .before .before .before .before .before .before .before .pre .1 in (
-      omega (arith, p .track-range),
-      rw (c .before .before .before .before .before .before .before .width .ensures, c .before .before .span .ensures) (rw (e, down-points (a .board) (a .track) (a .net) k (a .top) (p .track-range .0) (c .before .if1 .taken)) at h),
-    )
+    let a = c .before .before .before .before .before .before .before .before .before .before .before .args in
+    let p = c .before .before .before .before .before .before .before .before .before .before .before .pre .0 in
+    let k = c .before .before .before .before .before .before .shape .given .0 .0 in
+    let e : a .shape ≡ Stretched k = c .before .before .before .before .before .before .shape .given .1 in
+    let h : a .at + length (pointsText (a .board) (a .track) (a .net) (a .shape) (a .top)) ≤ length (now (a .out)) = c .before .before .before .before .before .before .before .before .before .before .before .pre .1 in
+    (omega (arith, p .track-range),
+      rw (c .before .before .before .before .before .before .before .before .before .width .ensures, c .before .before .before .before .span .ensures) (rw (e, down-points (a .board) (a .track) (a .net) k (a .top) (p .track-range .0) (c .before .if1 .taken)) at h))
 
 put-stretched-requires-2 : tie.Need-put-stretched-requires-2
 put-stretched-requires-2 c κs =
-    let a = c .before .before .before .before .before .before .before .before .before .args in
-    let p = c .before .before .before .before .before .before .before .before .before .pre .0 in
-    let k = c .before .before .before .before .shape .given .0 .0 in
-    let e : a .shape ≡ Stretched k = c .before .before .before .before .shape .given .1 in
-    let h : a .at + length (pointsText (a .board) (a .track) (a .net) (a .shape) (a .top)) ≤ length (now (a .out)) = c .before .before .before .before .before .before .before .before .before .pre .1 in (
-      omega (arith, p .track-range),
-      rw (c .before .before .before .before .before .before .before .width .ensures, c .before .before .span .ensures) (rw (e, up-points (a .board) (a .track) (a .net) k (a .top) (p .track-range .0) (c .before .if1 .left)) at h),
-    )
+    let a = c .before .before .before .before .before .before .before .before .before .before .before .args in
+    let p = c .before .before .before .before .before .before .before .before .before .before .before .pre .0 in
+    let k = c .before .before .before .before .before .before .shape .given .0 .0 in
+    let e : a .shape ≡ Stretched k = c .before .before .before .before .before .before .shape .given .1 in
+    let h : a .at + length (pointsText (a .board) (a .track) (a .net) (a .shape) (a .top)) ≤ length (now (a .out)) = c .before .before .before .before .before .before .before .before .before .before .before .pre .1 in
+    (omega (arith, p .track-range),
+      rw (c .before .before .before .before .before .before .before .before .before .width .ensures, c .before .before .before .before .span .ensures) (rw (e, up-points (a .board) (a .track) (a .net) k (a .top) (p .track-range .0) (c .before .if1 .left)) at h))
 
 same-length : tie.Need-same-length
 same-length c = search needs
@@ -92,24 +90,24 @@ same-length-2 c = search needs
 
 returns-2 : tie.Need-returns-2
 returns-2 c =
-    let a = c .before .before .before .before .before .before .before .before .before .before .before .before .args in
-    let p = c .before .before .before .before .before .before .before .before .before .before .before .before .pre .0 in
-    let k = c .before .before .before .before .before .before .before .shape .given .0 .0 in
-    let e : a .shape ≡ Stretched k = c .before .before .before .before .before .before .before .shape .given .1 in
+    let a = c .before .before .before .before .before .before .before .before .before .before .before .before .before .before .args in
+    let p = c .before .before .before .before .before .before .before .before .before .before .before .before .before .before .pre .0 in
+    let k = c .before .before .before .before .before .before .before .before .before .shape .given .0 .0 in
+    let e : a .shape ≡ Stretched k = c .before .before .before .before .before .before .before .before .before .shape .given .1 in
     rw (e, down-points (a .board) (a .track) (a .net) k (a .top) (p .track-range .0) (c .before .before .before .before .if1 .taken))
-    (rw (c .before .before .before .before .before .before .before .before .before .before .width .ensures, c .before .before .before .before .before .span .ensures) at (c .before .before .put-stretched .ensures))
+    (rw (c .before .before .before .before .before .before .before .before .before .before .before .before .width .ensures, c .before .before .before .before .before .before .before .span .ensures) at (c .before .before .put-stretched .ensures))
 
 same-length-3 : tie.Need-same-length-3
 same-length-3 c = search needs
 
 returns-3 : tie.Need-returns-3
 returns-3 c =
-    let a = c .before .before .before .before .before .before .before .before .before .before .before .before .args in
-    let p = c .before .before .before .before .before .before .before .before .before .before .before .before .pre .0 in
-    let k = c .before .before .before .before .before .before .before .shape .given .0 .0 in
-    let e : a .shape ≡ Stretched k = c .before .before .before .before .before .before .before .shape .given .1 in
+    let a = c .before .before .before .before .before .before .before .before .before .before .before .before .before .before .args in
+    let p = c .before .before .before .before .before .before .before .before .before .before .before .before .before .before .pre .0 in
+    let k = c .before .before .before .before .before .before .before .before .before .shape .given .0 .0 in
+    let e : a .shape ≡ Stretched k = c .before .before .before .before .before .before .before .before .before .shape .given .1 in
     rw (e, up-points (a .board) (a .track) (a .net) k (a .top) (p .track-range .0) (c .before .before .before .before .if1 .left))
-    (rw (c .before .before .before .before .before .before .before .before .before .before .width .ensures, c .before .before .before .before .before .span .ensures) at (c .before .before .put-stretched2 .ensures))
+    (rw (c .before .before .before .before .before .before .before .before .before .before .before .before .width .ensures, c .before .before .before .before .before .before .before .span .ensures) at (c .before .before .put-stretched2 .ensures))
 
 pub put-points-spec : {M : Type 1} → statement M
 put-points-spec =
@@ -122,8 +120,8 @@ put-points-spec =
     put-plain-requires
     enum-known-shape
     span-requires
-    add-v
-    add-v-2
+    add-t17
+    add-t18
     put-stretched-requires
     put-stretched-requires-2
     same-length

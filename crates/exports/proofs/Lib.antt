@@ -1,0 +1,3 @@
+-- Laws of the sums and of what the answer of read stands for.
+pub mod Sums
+pub mod Answered

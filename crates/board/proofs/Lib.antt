@@ -3,6 +3,7 @@ pub mod ShortestShape
 pub mod Tops
 pub mod Lengths
 pub mod SameNumber
+pub mod StoredJobs
 pub mod WorkedBoard
 pub mod ExactTests
 pub mod RivalTests

@@ -1,11 +1,12 @@
 -- The job by value: its arrays hold the job's nets and blocks, and one fixed empty record in every other slot.
-use Prim.Native.Nat.{ℕ, _-_}
+use Prim.Native.Nat.{ℕ, _-_, _≤_}
 use mathlib.Core.List.{List, [], _++_}
 use lib.ListN.{length, take, replicate}
 use Rattle.board.specs.declared.Net.{Net}
 use Rattle.board.specs.declared.Block.{Block}
 use Rattle.board.specs.declared.StoredJob.{StoredJob}
 use Rattle.board.specs.Job.{Job}
+use Rattle.board.specs.Accepted.{Accepted}
 
 -- the job that a value stands for: its board, its first nnets nets, its first nblocks blocks
 abbrev pub jobOf : StoredJob → Job
@@ -28,3 +29,9 @@ storedOf job =
       nets = job .nets ++ replicate (512 - length (job .nets)) noNet;
       blocks = job .blocks ++ replicate (256 - length (job .blocks)) noBlock;
     }
+
+-- a job by value that no refusal turns away, and whose counts are within its arrays
+pub record AcceptedStored (s : StoredJob) : Type 0 where
+  pub accepted : Accepted (jobOf s)
+  pub nets-room : s .nnets ≤ 512
+  pub blocks-room : s .nblocks ≤ 256

@@ -21,7 +21,8 @@ use Rattle.blockmap.specs.Clear.{clearRows, flagTops}
 use Rattle.blockmap.proofs.ClearTops.{flags-length}
 use Rattle.candidates.specs.declared.Candidates.{Candidates}
 use Rattle.candidates.specs.declared.NetTops.{NetTops}
-use Rattle.candidates.specs.Placed.{AcceptedStored, eligibleAt, precedingOf, placedNumbers}
+use Rattle.board.specs.Stored.{AcceptedStored}
+use Rattle.candidates.specs.Placed.{eligibleAt, precedingOf, placedNumbers}
 use Rattle.candidates.specs.Gathered.{Candidate, candidatesFrom, candidatesOf, TopsOf, arraysOf, onPart, flagSlot, flagSlots, GatheredFrom}
 use Rattle.candidates.proofs.Prefixes.{take-more}
 use Rattle.candidates.proofs.NetBefore.{before-at}

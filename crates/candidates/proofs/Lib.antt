@@ -6,4 +6,3 @@ pub mod NetBefore
 pub mod Eligible
 pub mod Slots
 pub mod Gathering
-pub mod StoredJobs

@@ -16,7 +16,8 @@ use Rattle.board.specs.declared.StoredJob.{StoredJob}
 use Rattle.board.specs.Stored.{jobOf, noNet}
 use Rattle.board.specs.Accepted.{AcceptedNet}
 use Rattle.board.specs.Tests.{isBefore}
-use Rattle.candidates.specs.Placed.{AcceptedStored, padded, indexFrom, precedingOf}
+use Rattle.board.specs.Stored.{AcceptedStored}
+use Rattle.candidates.specs.Placed.{padded, indexFrom, precedingOf}
 use Rattle.candidates.proofs.Prefixes.{take-more, mem-take, pair-across, same-key, padded-more, map-at}
 
 module _ (f : Net → Bool) where

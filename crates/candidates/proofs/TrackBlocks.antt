@@ -16,7 +16,8 @@ use Rattle.board.specs.Job.{Job, closes, blocked}
 use Rattle.board.specs.Stored.{jobOf, noBlock}
 use Rattle.board.specs.Accepted.{BlockInRange}
 use Rattle.blockmap.specs.Bits.{isSet}
-use Rattle.candidates.specs.Placed.{AcceptedStored, hasBlocks}
+use Rattle.board.specs.Stored.{AcceptedStored}
+use Rattle.candidates.specs.Placed.{hasBlocks}
 use Rattle.candidates.proofs.Prefixes.{take-more, mem-take, anyOf-more}
 
 -- the rows set are those that a block of bs closes

@@ -13,12 +13,6 @@ use Rattle.board.specs.Stored.{jobOf, noNet}
 use Rattle.board.specs.Accepted.{Accepted}
 use Rattle.board.specs.Tests.{isOn, isBefore}
 
--- a job by value that no refusal turns away, and whose counts are within its arrays
-pub record AcceptedStored (s : StoredJob) : Type 0 where
-  pub accepted : Accepted (jobOf s)
-  pub nets-room : s .nnets ≤ 512
-  pub blocks-room : s .nblocks ≤ 256
-
 -- some block is on track t
 unfoldable pub hasBlocks : Job → ℕ → Bool
 hasBlocks job t = anyOf (λ b. eqb (b .track .0) t) (job .blocks)

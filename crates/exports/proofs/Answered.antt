@@ -9,8 +9,8 @@ use Rattle.jobfile.specs.Read.{Read, accepted, refused, readJob}
 use Rattle.jobfile.specs.Answers.{numberOf, answerOf}
 use Rattle.jobfile.proofs.Accepts.{read-accepted}
 use Rattle.jobfile.proofs.Refusals.{read-refused, fault-from}
-use Rattle.candidates.specs.Placed.{AcceptedStored}
-use Rattle.candidates.proofs.StoredJobs.{job-back, stored-accepted}
+use Rattle.board.specs.Stored.{AcceptedStored}
+use Rattle.board.proofs.StoredJobs.{job-back, stored-accepted}
 use Rattle.planning.specs.Plan.{planOf}
 use Rattle.planning.specs.Loose.{sumOfTracks}
 use Rattle.planner.specs.JobPlans.{jobPlanOf}

@@ -13,7 +13,7 @@ use Rattle.jobfile.specs.Read.{Read, accepted, refused, readJob}
 use Rattle.jobfile.specs.Answers.{numberOf, answerOf}
 use Rattle.jobfile.specs.Faults.{FirstFault}
 use Rattle.jobfile.proofs.Accepts.{read-accepted}
-use Rattle.jobfile.proofs.StoredJobs.{jobOf-storedOf}
+use Rattle.board.proofs.StoredJobs.{job-back}
 use Rattle.jobfile.proofs.Refusals.{read-refused, fault-from}
 
 module _ (text : List ℕ) where
@@ -29,7 +29,7 @@ module _ (text : List ℕ) where
   returned-job = by (readJob text) refl
     where
       by : (y : Read) → readJob text ≡ y → answerOf y .outcome ≡ Is.Accepted → y ≡ accepted (jobOf (answerOf y .job))
-      by (accepted job) e q = ap accepted (sym (jobOf-storedOf job))
+      by (accepted job) e q = ap accepted (sym (job-back job))
       by (refused o) e q = absurd (refused-number o e q)
 
   pub returned-accepted : answer .outcome ≡ Is.Accepted → Accepted (jobOf (answer .job))

@@ -1,27 +1,17 @@
--- The job by value: it stands for its job, its arrays are full, and a net or block more goes into the first unused slot. Assumes
+-- The job by value: its arrays are full, and a net or block more goes into the first unused slot. Assumes
 -- nothing.
 use Prim.Native.Nat.{ℕ, suc, _+_, _-_, _≤_, _<_}
 use mathlib.Core.Path.{_≡_, refl, sym, _∙_}
 use mathlib.Core.List.{List, [], _∷_, _++_, append-assoc}
 use native.Mathlib.Omega.{arith}
 use lib.ListN.{length, replicate, set, length-append, length-replicate}
-use lib.Seq.{take-append-seam, set-at}
+use lib.Seq.{set-at}
 use Rattle.board.specs.declared.Net.{Net}
 use Rattle.board.specs.declared.Block.{Block}
 use Rattle.board.specs.Job.{Job}
 use Rattle.board.specs.Accepted.{Accepted}
 use Rattle.jobfile.specs.Read.{withNet, withBlock}
-use Rattle.board.specs.Stored.{jobOf, storedOf, noNet, noBlock}
-
--- the used slots hold the job
-pub jobOf-storedOf : (job : Job) → jobOf (storedOf job) ≡ job
-unfolding storedOf
-jobOf-storedOf job =
-    λ i. record {
-      board = job .board;
-      nets = take-append-seam (job .nets) (replicate (512 - length (job .nets)) noNet) i;
-      blocks = take-append-seam (job .blocks) (replicate (256 - length (job .blocks)) noBlock) i;
-    }
+use Rattle.board.specs.Stored.{storedOf, noNet, noBlock}
 
 module _ {A : Type 0} (most : ℕ) (xs : List A) (none : A) where
   -- a list filled up to its full length

@@ -20,7 +20,7 @@ use Rattle.jobfile.specs.declared.Outcome.the-variants.{Accepted, NotOfForm}
 use Rattle.jobfile.specs.Read.{State, start, opened, sized, filled, closed, Next, go, stop, unless, atStart, atOpened, atSized, atFilled, netOf, blockOf, boardOf, emptyBoard, addNet, addBlock, step}
 use Rattle.jobfile.specs.Answers.{numberOf, lineOf}
 use Rattle.jobfile.proofs.Tests.{within-is}
-use Rattle.jobfile.proofs.StoredJobs.{jobOf-storedOf}
+use Rattle.board.proofs.StoredJobs.{job-back}
 use Rattle.jobrules.specs.Rules.{Filled}
 use Rattle.reader.specs.Progress.{stateOf, progressOf, FilledAt, Held}
 use Rattle.reader.specs.declared.Progress.{Progress}
@@ -45,7 +45,7 @@ stored-filled : (job : Job) → Sized job → Filled (storedOf job)
 unfolding storedOf
 stored-filled job g =
     record {
-      stored = ap storedOf (jobOf-storedOf job);
+      stored = ap storedOf (job-back job);
       board-range = g .board-range;
       nets-count = g .nets-count;
       blocks-count = g .blocks-count;
@@ -56,8 +56,8 @@ unfolding stateOf progressOf storedOf
 state-back start = refl
 state-back opened = refl
 state-back (sized h) = refl
-state-back (filled job) = ap filled (jobOf-storedOf job)
-state-back (closed job) = ap closed (jobOf-storedOf job)
+state-back (filled job) = ap filled (job-back job)
+state-back (closed job) = ap closed (job-back job)
 
 same-progress : (s : State) → progressOf (go s) ≡ record { outcome = Accepted; stage = progressOf (go s) .stage; job = progressOf (go s) .job }
 unfolding progressOf

@@ -1,12 +1,11 @@
--- A job that is stored comes back, so an accepted one meets what the functions here ask. Assumes nothing.
+-- A job that is stored comes back, so an accepted one meets what the functions on stored jobs ask. Assumes nothing.
 use Prim.Native.Nat.{_-_}
 use mathlib.Core.Path.{_≡_, refl}
 use lib.ListN.{length, replicate}
 use lib.Seq.{take-at}
 use Rattle.board.specs.Job.{Job}
-use Rattle.board.specs.Stored.{jobOf, noNet, noBlock, storedOf}
+use Rattle.board.specs.Stored.{jobOf, noNet, noBlock, storedOf, AcceptedStored}
 use Rattle.board.specs.Accepted.{Accepted}
-use Rattle.candidates.specs.Placed.{AcceptedStored}
 
 pub job-back : (job : Job) → jobOf (storedOf job) ≡ job
 unfolding storedOf

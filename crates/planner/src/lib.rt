@@ -6,6 +6,7 @@ ghost use Prim.Native.Nat.{_≤_};
 ghost use lib.ListN.{length};
 ghost use Rattle.board.specs.Stored.{AcceptedStored};
 ghost use Rattle.candidates.specs.Placed.{precedingOf};
+ghost use Rattle.planner.specs.Chosen.{BestPlan};
 ghost use Rattle.planner.specs.JobPlans.{jobPlanOf};
 ghost use Rattle.planner.specs.Progressed.{OnTurn, noProgress, progressTo, trackPlan};
 use board::Row;
@@ -114,10 +115,11 @@ fn no_progress() -> Progress
     }
 }
 
-// The plan of a job: its tracks filled in order 1 to K.
+// The plan of a job: its tracks filled in order 1 to K. No track of it is beaten, and each wire is at its shortest length.
 pub fn plan_job(job: StoredJob) -> JobPlan
     requires { ⌜ AcceptedStored job ⌝ }
     ensures { λ r. ⌜ r ≡ jobPlanOf (jobOf job) ⌝ }
+    ensures { λ r. ⌜ BestPlan (jobOf job) r ⌝ }
 {
     let before = preceding(job);
     let mut flags = [0u8; 524288];

@@ -6,6 +6,7 @@ use borrow.Author.Needs.{needs}
 use lib.ListN.{length, length-replicate}
 use Rattle.board.specs.Stored.{jobOf}
 use Rattle.planner.specs.Progressed.{progressTo, OnTurn}
+use Rattle.planner.proofs.PlanIsBest.{best-plan}
 use Rattle.planner.proofs.NextTrack.{none-planned, all-planned}
 use Rattle.planner.proofs.plan_job.Statement.{statement}
 use Rattle.planner.proofs.plan_job.Tie as tie
@@ -57,7 +58,9 @@ returns c =
     let l = c .before .before .before .before in
     let s = l .before .before .before in
     let e : l .loop .t - 1 ≡ s .args .job .board .tracks = omega arith in
-    all-planned (jobOf (s .args .job)) (l .loop .p) (l .loop .inv .2 ∙ ap (progressTo (jobOf (s .args .job))) e)
+    let job = jobOf (s .args .job) in
+    let is = all-planned job (l .loop .p) (l .loop .inv .2 ∙ ap (progressTo job) e) in
+    (is, rw is (best-plan job (s .pre .accepted)))
 
 pub plan-job-spec : {M : Type 1} → statement M
 plan-job-spec =

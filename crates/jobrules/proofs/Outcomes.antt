@@ -1,16 +1,19 @@
 -- The laws of the tests of a line, one after another: what a line leads to where all of them pass. Assumes nothing.
 use Prim.Native.Nat.{ℕ, _≤_, _<_}
 use mathlib.Core.Path.{_≡_, refl}
-use mathlib.Core.Bool.{Bool, true, false}
+use mathlib.Core.Bool.{Bool, true, false, not}
 use native.Mathlib.Omega.{arith}
-use lib.Dec.{leb}
+use lib.Dec.{eqb, leb, ltb}
 use lib.ListN.{length}
 use borrow.Author.Tests.{ltb-true, le-leb, lt-leb}
+use Rattle.lists.specs.Lists.{allOf}
 use Rattle.board.specs.declared.Net.{Net}
 use Rattle.board.specs.declared.Block.{Block}
 use Rattle.board.specs.Job.{Job}
+use Rattle.board.specs.Length.{lengthOf, shortest, needed}
 use Rattle.jobfile.specs.declared.Outcome.{Outcome}
-use Rattle.jobfile.specs.Read.{filled, Next, go, unless, withNet, withBlock, addNet, addBlock}
+use Rattle.jobfile.specs.declared.Outcome.the-variants.{Accepted, NoLength, TooFewRows}
+use Rattle.jobfile.specs.Read.{filled, Next, go, unless, netInRange, lastNumber, pinsFree, withNet, withBlock, addNet, addBlock}
 use Rattle.jobfile.specs.Answers.{numberOf}
 use Rattle.jobrules.specs.Rules.{outcomeOf}
 
@@ -20,6 +23,31 @@ test-yes {x} {y} m e h = le-leb y m (omega arith)
 
 pub test-no : {x y : ℕ} (m : ℕ) → x ≡ y → m < x → leb y m ≡ false
 test-no {x} {y} m e h = lt-leb y m (omega arith)
+
+-- ---- the outcome of a net that passes the tests 3 to 7
+
+pub record Passes7 (n : Net) (job : Job) : Type 0 where
+  pub ranges : netInRange (job .board) n ≡ true
+  pub few : ltb (length (job .nets)) 512 ≡ true
+  pub above : ltb (lastNumber 0 (job .nets)) (n .number) ≡ true
+  pub free : allOf (pinsFree n) (job .nets) ≡ true
+  pub differ : not (eqb (n .left .0) (n .right .0)) ≡ true
+
+module _ (k : ℕ) (n : Net) (job : Job) (p : Passes7 n job) where
+  pub fails-8 : leb (lengthOf (job .board) n (shortest (job .board) n)) (n .max) ≡ false → NoLength k ≡ outcomeOf (addNet k n job)
+  unfolding outcomeOf addNet unless
+  fails-8 e = rw (p .ranges, p .few, p .above, p .free, p .differ, e)
+
+  module _ (e : leb (lengthOf (job .board) n (shortest (job .board) n)) (n .max) ≡ true) where
+    pub fails-9 : leb (needed (job .board) n) (job .board .rows) ≡ false → TooFewRows k ≡ outcomeOf (addNet k n job)
+    unfolding outcomeOf addNet unless
+    fails-9 f = rw (p .ranges, p .few, p .above, p .free, p .differ, e, f)
+
+    pub passes-9 : leb (needed (job .board) n) (job .board .rows) ≡ true → Accepted ≡ outcomeOf (addNet k n job)
+    unfolding outcomeOf addNet unless
+    passes-9 f = rw (p .ranges, p .few, p .above, p .free, p .differ, e, f)
+
+-- ---- where all tests pass
 
 -- nothing is refused
 abbrev pub Passes : Next → Type 0

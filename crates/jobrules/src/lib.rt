@@ -188,10 +188,11 @@ pub fn net_outcome(job: StoredJob, net: Net, line: usize) -> Outcome
     if !is_net_in_range(size, net) {
         return Outcome::OutOfRange(line);
     }
+    let last = last_number(job);
     if 512 <= job.nnets {
         return Outcome::TooMany(line);
     }
-    if net.number <= last_number(job) {
+    if net.number <= last {
         return Outcome::NumberNotAbove(line);
     }
     if !are_pins_free(job, net) {
@@ -218,8 +219,9 @@ pub fn block_outcome(job: StoredJob, block: Block, line: usize) -> Outcome
     if !is_block_in_range(job.board, block) {
         return Outcome::OutOfRange(line);
     }
-    if 256 <= job.nblocks {
-        return Outcome::TooMany(line);
+    if job.nblocks < 256 {
+        Outcome::Accepted
+    } else {
+        Outcome::TooMany(line)
     }
-    Outcome::Accepted
 }

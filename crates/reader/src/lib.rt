@@ -10,7 +10,7 @@ use jobfile::Outcome;
 use lines::Place;
 use lines::Step;
 ghost use mathlib.Core.Path.{_≡_};
-ghost use Prim.Native.Nat.{_≤_, _<_};
+ghost use Prim.Native.Nat.{_≤_};
 ghost use lib.ListN.{length};
 ghost use Rattle.board.specs.Stored.{jobOf};
 ghost use Rattle.text.specs.Written.{Written};
@@ -33,8 +33,19 @@ pub enum FormStep {
     End,
 }
 
-// What the lines above hold. The outcome is that of the last of them; the stage is 0 before the first, 1 behind `(board`, 2 behind
-// `(rows H)`, 3 behind `(tracks K)`, among nets and blocks, 4 behind the closing bracket.
+// How far the lines above go: nothing yet, behind `(board`, behind `(rows H)`, behind `(tracks K)` among nets and blocks, behind the
+// closing bracket.
+const START: usize = 0;
+
+const OPENED: usize = 1;
+
+const SIZED: usize = 2;
+
+const FILLED: usize = 3;
+
+const CLOSED: usize = 4;
+
+// What the lines above hold: the outcome of the last of them, the stage that they come to, and the job so far.
 pub struct Progress {
     pub outcome: Outcome,
     pub stage: usize,
@@ -76,7 +87,7 @@ fn refused(outcome: Outcome) -> Progress
     let job = jobrules::empty_job(0, 0);
     Progress {
         outcome,
-        stage: 0,
+        stage: START,
         job,
     }
 }
@@ -91,7 +102,7 @@ fn take_rows(h: usize, line: usize) -> Progress
     let job = jobrules::empty_job(h, 0);
     Progress {
         outcome: Outcome::Accepted,
-        stage: 2,
+        stage: SIZED,
         job,
     }
 }
@@ -106,7 +117,7 @@ fn take_tracks(h: usize, k: usize, line: usize) -> Progress
     let job = jobrules::empty_job(h, k);
     Progress {
         outcome: Outcome::Accepted,
-        stage: 3,
+        stage: FILLED,
         job,
     }
 }
@@ -123,7 +134,7 @@ fn take_net(job: StoredJob, net: Net, line: usize) -> Progress
     let more = jobrules::with_net(job, net);
     Progress {
         outcome,
-        stage: 3,
+        stage: FILLED,
         job: more,
     }
 }
@@ -140,7 +151,7 @@ fn take_block(job: StoredJob, block: Block, line: usize) -> Progress
     let more = jobrules::with_block(job, block);
     Progress {
         outcome,
-        stage: 3,
+        stage: FILLED,
         job: more,
     }
 }
@@ -151,12 +162,12 @@ fn may_stand(stage: usize, form: Form) -> bool
 {
     match form {
         Form::Blank => true,
-        Form::Board => stage == 0,
-        Form::Rows(_) => stage == 1,
-        Form::Tracks(_) => stage == 2,
-        Form::Net(_, _, _, _, _) => stage == 3,
-        Form::Block(_, _, _) => stage == 3,
-        Form::Close => stage == 3,
+        Form::Board => stage == START,
+        Form::Rows(_) => stage == OPENED,
+        Form::Tracks(_) => stage == SIZED,
+        Form::Net(_, _, _, _, _) => stage == FILLED,
+        Form::Block(_, _, _) => stage == FILLED,
+        Form::Close => stage == FILLED,
         Form::Other => false,
     }
 }
@@ -177,7 +188,7 @@ fn take_form(stage: usize, job: StoredJob, form: Form, line: usize) -> Progress
         },
         Form::Board => Progress {
             outcome: Outcome::Accepted,
-            stage: 1,
+            stage: OPENED,
             job,
         },
         Form::Rows(h) => take_rows(h, line),
@@ -202,7 +213,7 @@ fn take_form(stage: usize, job: StoredJob, form: Form, line: usize) -> Progress
         }
         Form::Close => Progress {
             outcome: Outcome::Accepted,
-            stage: 4,
+            stage: CLOSED,
             job,
         },
         Form::Other => refused(Outcome::NotOfForm(line)),
@@ -230,11 +241,11 @@ fn finish(stage: usize, job: StoredJob, line: usize) -> Answer
     requires { ⌜ Held stage job ⌝ }
     ensures { λ r. ⌜ r ≡ answerOf (ended line (stateOf stage job)) ⌝ }
 {
-    if stage < 4 {
-        let nothing = jobrules::empty_job(0, 0);
+    if stage < CLOSED {
+        let empty = jobrules::empty_job(0, 0);
         return Answer {
             outcome: Outcome::NotOfForm(line),
-            job: nothing,
+            job: empty,
         };
     }
     Answer {
@@ -254,7 +265,7 @@ pub fn read(text: &[u8]) -> Answer
             job,
         };
     }
-    let mut stage = 0;
+    let mut stage = START;
     let mut cursor = Cursor::start();
     loop {
         match cursor.next(text) {

@@ -21,7 +21,7 @@ returns-2 c =
     rw (
       sym (c .before .before .before .is-block-in-range .ensures) ∙ not-false _ (c .before .before .if1 .left),
       blocks-used _ (c .before .before .before .before .pre),
-      le-ltb _ _ (c .if2 .taken),
+      lt-ltb _ _ (c .if2 .taken),
     )
 
 returns-3 : tie.Need-returns-3
@@ -30,7 +30,7 @@ returns-3 c =
     rw (
       sym (c .before .before .before .is-block-in-range .ensures) ∙ not-false _ (c .before .before .if1 .left),
       blocks-used _ (c .before .before .before .before .pre),
-      lt-ltb _ _ (c .if2 .left),
+      le-ltb _ _ (c .if2 .left),
     )
 
 pub block-outcome-spec : {M : Type 1} → statement M

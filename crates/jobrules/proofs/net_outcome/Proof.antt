@@ -1,5 +1,4 @@
 -- `jobrules::net_outcome` meets its contract: refusals 3 to 9, the first that fits. Assumes nothing.
-use Rattle.jobrules.proofs.Outcomes.{test-yes, test-no}
 use mathlib.Core.Path.{_≡_, sym, ap, _∙_}
 use mathlib.Core.Bool.{true}
 use native.Mathlib.Omega.{arith}
@@ -15,6 +14,7 @@ use Rattle.jobfile.specs.Read.{unless, netInRange, lastNumber, pinsFree, addNet
 use Rattle.jobfile.proofs.Tests.{net-range-is}
 use Rattle.jobrules.specs.Rules.{outcomeOf}
 use Rattle.jobrules.proofs.Slots.{nets-used}
+use Rattle.jobrules.proofs.Outcomes.{test-yes, test-no, Passes7, fails-8, fails-9, passes-9}
 use borrow.Author.Needs.{needs}
 use Rattle.jobrules.proofs.net_outcome.Statement.{statement}
 use Rattle.jobrules.proofs.net_outcome.Tie as tie
@@ -26,11 +26,11 @@ is-net-in-range-requires c κs = search needs
 ranged : (c : tie.Else1) → netInRange (c .before .before .before .args .job .board) (c .before .before .before .args .net) ≡ true
 ranged c = sym (c .before .is-net-in-range .ensures) ∙ not-false _ (c .if1 .left)
 
-few : (c : tie.Else2) → ltb (length (jobOf (c .before .before .before .before .before .args .job) .nets)) 512 ≡ true
-few c = rw (nets-used _ (c .before .before .before .before .before .pre)) (lt-ltb _ _ (c .if2 .left))
+few : (c : tie.Else2) → ltb (length (jobOf (c .before .before .before .before .before .before .args .job) .nets)) 512 ≡ true
+few c = rw (nets-used _ (c .before .before .before .before .before .before .pre)) (lt-ltb _ _ (c .if2 .left))
 
 above : (c : tie.Else3) → ltb (lastNumber 0 (jobOf (c .before .before .before .before .before .before .before .before .args .job) .nets)) (c .before .before .before .before .before .before .before .before .args .net .number) ≡ true
-above c = rw (← c .before .before .last-number .ensures) (lt-ltb _ _ (c .if3 .left))
+above c = rw (← c .before .before .before .before .last-number .ensures) (lt-ltb _ _ (c .if3 .left))
 
 free : (c : tie.Else4) → allOf (pinsFree (c .before .before .before .before .before .before .before .before .before .before .args .net)) (jobOf (c .before .before .before .before .before .before .before .before .before .before .args .job) .nets) ≡ true
 free c = sym (c .before .are-pins-free .ensures) ∙ not-false _ (c .if4 .left)
@@ -38,31 +38,41 @@ free c = sym (c .before .are-pins-free .ensures) ∙ not-false _ (c .if4 .left)
 in-range : (c : tie.Else1) → NetInRange (c .before .before .before .args .job .board) (c .before .before .before .args .net)
 in-range c = net-range-is _ _ .0 (ranged c)
 
+passed : (c : tie.Else5) → Passes7 (c .before .before .before .before .before .before .before .before .before .before .before .before .args .net) (jobOf (c .before .before .before .before .before .before .before .before .before .before .before .before .args .job))
+passed c =
+    record {
+      ranges = ranged (c .before .before .before .before .before .before .before .before .before);
+      few = few (c .before .before .before .before .before .before);
+      above = above (c .before .before .before .before);
+      free = free (c .before .before);
+      differ = rw (ne-eqb _ _ (c .if5 .left));
+    }
+
 returns : tie.Need-returns
 unfolding outcomeOf addNet unless
 returns c = rw (sym (c .before .is-net-in-range .ensures) ∙ not-true _ (c .if1 .taken))
 
-returns-2 : tie.Need-returns-2
-unfolding outcomeOf addNet unless
-returns-2 c = rw (ranged (c .before .before), nets-used _ (c .before .before .before .before .before .pre), le-ltb _ _ (c .if2 .taken))
-
 last-number-requires : tie.Need-last-number-requires
 last-number-requires c κs = search needs
 
+returns-2 : tie.Need-returns-2
+unfolding outcomeOf addNet unless
+returns-2 c = rw (ranged (c .before .before .before), nets-used _ (c .before .before .before .before .before .before .pre), le-ltb _ _ (c .if2 .taken))
+
 returns-3 : tie.Need-returns-3
 unfolding outcomeOf addNet unless
-returns-3 c = rw (ranged (c .before .before .before .before .before), few (c .before .before .before), ← c .before .before .last-number .ensures, le-ltb _ _ (c .if3 .taken))
+returns-3 c = rw (ranged (c .before .before .before .before .before), few (c .before .before), ← c .before .before .before .before .last-number .ensures, le-ltb _ _ (c .if3 .taken))
 
 are-pins-free-requires : tie.Need-are-pins-free-requires
 are-pins-free-requires c κs = search needs
 
 returns-4 : tie.Need-returns-4
 unfolding outcomeOf addNet unless
-returns-4 c = rw (ranged (c .before .before .before .before .before .before .before), few (c .before .before .before .before .before), above (c .before .before), sym (c .before .are-pins-free .ensures) ∙ not-true _ (c .if4 .taken))
+returns-4 c = rw (ranged (c .before .before .before .before .before .before .before), few (c .before .before .before .before), above (c .before .before), sym (c .before .are-pins-free .ensures) ∙ not-true _ (c .if4 .taken))
 
 returns-5 : tie.Need-returns-5
 unfolding outcomeOf addNet unless
-returns-5 c = rw (ranged (c .before .before .before .before .before .before .before .before .before), few (c .before .before .before .before .before .before .before), above (c .before .before .before .before), free (c .before .before), eq-eqb _ _ (c .if5 .taken))
+returns-5 c = rw (ranged (c .before .before .before .before .before .before .before .before .before), few (c .before .before .before .before .before .before), above (c .before .before .before .before), free (c .before .before), eq-eqb _ _ (c .if5 .taken))
 
 shortest-requires : tie.Need-shortest-requires
 shortest-requires c κs = (c .before .before .before .before .before .before .before .before .before .before .before .before .pre .board-range, in-range (c .before .before .before .before .before .before .before .before .before))
@@ -74,45 +84,22 @@ length-of-requires c κs =
     (b, (r, omega (arith, ap extra (c .shortest .ensures), stretch-range _ _ b r)))
 
 returns-6 : tie.Need-returns-6
-unfolding outcomeOf addNet unless
-returns-6 c =
-    rw (
-      ranged (c .before .before .before .before .before .before .before .before .before .before .before .before .before),
-      few (c .before .before .before .before .before .before .before .before .before .before .before),
-      above (c .before .before .before .before .before .before .before .before),
-      free (c .before .before .before .before .before .before),
-      ne-eqb _ _ (c .before .before .before .before .if5 .left),
-      test-no _ (c .before .before .length-of .ensures ∙ ap (lengthOf _ _) (c .before .before .before .shortest .ensures)) (c .if6 .taken),
-    )
+returns-6 c = fails-8 _ _ _ (passed (c .before .before .before .before)) (test-no _ (c .before .before .length-of .ensures ∙ ap (lengthOf _ _) (c .before .before .before .shortest .ensures)) (c .if6 .taken))
 
 needed-requires : tie.Need-needed-requires
 needed-requires c κs = (c .before .before .before .before .before .before .before .before .before .before .before .before .before .before .before .before .pre .board-range, in-range (c .before .before .before .before .before .before .before .before .before .before .before .before .before))
 
 returns-7 : tie.Need-returns-7
-unfolding outcomeOf addNet unless
 returns-7 c =
-    rw (
-      ranged (c .before .before .before .before .before .before .before .before .before .before .before .before .before .before .before .before),
-      few (c .before .before .before .before .before .before .before .before .before .before .before .before .before .before),
-      above (c .before .before .before .before .before .before .before .before .before .before .before),
-      free (c .before .before .before .before .before .before .before .before .before),
-      ne-eqb _ _ (c .before .before .before .before .before .before .before .if5 .left),
-      test-yes _ (c .before .before .before .before .before .length-of .ensures ∙ ap (lengthOf _ _) (c .before .before .before .before .before .before .shortest .ensures)) (c .before .before .before .if6 .left),
-      test-no _ (c .before .before .needed .ensures) (c .if7 .taken),
-    )
+    fails-9 _ _ _ (passed (c .before .before .before .before .before .before .before))
+    (test-yes _ (c .before .before .before .before .before .length-of .ensures ∙ ap (lengthOf _ _) (c .before .before .before .before .before .before .shortest .ensures)) (c .before .before .before .if6 .left))
+    (test-no _ (c .before .before .needed .ensures) (c .if7 .taken))
 
 returns-8 : tie.Need-returns-8
-unfolding outcomeOf addNet unless
 returns-8 c =
-    rw (
-      ranged (c .before .before .before .before .before .before .before .before .before .before .before .before .before .before .before .before),
-      few (c .before .before .before .before .before .before .before .before .before .before .before .before .before .before),
-      above (c .before .before .before .before .before .before .before .before .before .before .before),
-      free (c .before .before .before .before .before .before .before .before .before),
-      ne-eqb _ _ (c .before .before .before .before .before .before .before .if5 .left),
-      test-yes _ (c .before .before .before .before .before .length-of .ensures ∙ ap (lengthOf _ _) (c .before .before .before .before .before .before .shortest .ensures)) (c .before .before .before .if6 .left),
-      test-yes _ (c .before .before .needed .ensures) (c .if7 .left),
-    )
+    passes-9 _ _ _ (passed (c .before .before .before .before .before .before .before))
+    (test-yes _ (c .before .before .before .before .before .length-of .ensures ∙ ap (lengthOf _ _) (c .before .before .before .before .before .before .shortest .ensures)) (c .before .before .before .if6 .left))
+    (test-yes _ (c .before .before .needed .ensures) (c .if7 .left))
 
 pub net-outcome-spec : {M : Type 1} → statement M
 net-outcome-spec =
@@ -120,8 +107,8 @@ net-outcome-spec =
     (tie.spec
     is-net-in-range-requires
     returns
-    returns-2
     last-number-requires
+    returns-2
     returns-3
     are-pins-free-requires
     returns-4

@@ -32,8 +32,8 @@ pub extern "C" fn hankuribo_plan(text: &[u8]) -> usize
     ensures { λ r. ⌜ r ≡ planSum (readJob (now (text .entry))) ⌝ }
 {
     let answer = reader::read(text);
-    let outcome = answer.outcome;
-    if jobrules::number_of(outcome) != 0 {
+    let found = answer.outcome;
+    if jobrules::number_of(found) != 0 {
         return 0;
     }
     let job = answer.job;

@@ -1,0 +1,4 @@
+-- A plan drawn as the text of a layout.
+pub mod TextParts
+pub mod NetsByTop
+pub mod PlanDrawable

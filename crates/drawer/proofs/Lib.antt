@@ -1,4 +1,5 @@
 -- A plan drawn as the text of a layout.
 pub mod TextParts
 pub mod NetsByTop
+pub mod RowsWritten
 pub mod PlanDrawable

@@ -62,9 +62,10 @@ put-stretched-requires c κs =
     let p = c .before .before .before .before .before .before .before .before .before .before .before .pre .0 in
     let k = c .before .before .before .before .before .before .shape .given .0 .0 in
     let e : a .shape ≡ Stretched k = c .before .before .before .before .before .before .shape .given .1 in
-    let h : a .at + length (pointsText (a .board) (a .track) (a .net) (a .shape) (a .top)) ≤ length (now (a .out)) = c .before .before .before .before .before .before .before .before .before .before .before .pre .1 in
-    (omega (arith, p .track-range),
-      rw (c .before .before .before .before .before .before .before .before .before .width .ensures, c .before .before .before .before .span .ensures) (rw (e, down-points (a .board) (a .track) (a .net) k (a .top) (p .track-range .0) (c .before .if1 .taken)) at h))
+    let h : a .at + length (pointsText (a .board) (a .track) (a .net) (a .shape) (a .top)) ≤ length (now (a .out)) = c .before .before .before .before .before .before .before .before .before .before .before .pre .1 in (
+      omega (arith, p .track-range),
+      rw (c .before .before .before .before .before .before .before .before .before .width .ensures, c .before .before .before .before .span .ensures) (rw (e, down-points (a .board) (a .track) (a .net) k (a .top) (p .track-range .0) (c .before .if1 .taken)) at h),
+    )
 
 put-stretched-requires-2 : tie.Need-put-stretched-requires-2
 put-stretched-requires-2 c κs =
@@ -72,9 +73,10 @@ put-stretched-requires-2 c κs =
     let p = c .before .before .before .before .before .before .before .before .before .before .before .pre .0 in
     let k = c .before .before .before .before .before .before .shape .given .0 .0 in
     let e : a .shape ≡ Stretched k = c .before .before .before .before .before .before .shape .given .1 in
-    let h : a .at + length (pointsText (a .board) (a .track) (a .net) (a .shape) (a .top)) ≤ length (now (a .out)) = c .before .before .before .before .before .before .before .before .before .before .before .pre .1 in
-    (omega (arith, p .track-range),
-      rw (c .before .before .before .before .before .before .before .before .before .width .ensures, c .before .before .before .before .span .ensures) (rw (e, up-points (a .board) (a .track) (a .net) k (a .top) (p .track-range .0) (c .before .if1 .left)) at h))
+    let h : a .at + length (pointsText (a .board) (a .track) (a .net) (a .shape) (a .top)) ≤ length (now (a .out)) = c .before .before .before .before .before .before .before .before .before .before .before .pre .1 in (
+      omega (arith, p .track-range),
+      rw (c .before .before .before .before .before .before .before .before .before .width .ensures, c .before .before .before .before .span .ensures) (rw (e, up-points (a .board) (a .track) (a .net) k (a .top) (p .track-range .0) (c .before .if1 .left)) at h),
+    )
 
 same-length : tie.Need-same-length
 same-length c = search needs

@@ -41,10 +41,10 @@ fn can_stand<'a>(
     ensures { λ r. ⌜ r ≡ stands (now (first .entry)) (now (last .entry)) (now (flags .entry)) (row .0) i ⌝ }
 {
     let j = row.0;
-    if first[i] <= j {
-        if j <= last[i] {
-            return flags[i * 1024 + (j - 1)] == 1;
-        }
+    // one test of both ends, since either alone is as likely to hold as not
+    let inside = (first[i] <= j) & (j <= last[i]);
+    if inside {
+        return flags[i * 1024 + (j - 1)] == 1;
     }
     false
 }

@@ -39,14 +39,14 @@ pub fn with_row(map: BlockMap, row: Row) -> BlockMap
 }
 
 // Whether a row is blocked.
-pub fn is_blocked(map: BlockMap, row: Row) -> bool
+pub fn is_blocked(words: &[u64; 16], row: Row) -> bool
     requires { ⌜ (1 ≤ row .0) × (row .0 ≤ 1024) ⌝ }
-    ensures { λ r. ⌜ r ≡ isSet (map .words) (row .0) ⌝ }
+    ensures { λ r. ⌜ r ≡ isSet (now (words .entry)) (row .0) ⌝ }
 {
     let number = row.0;
     let at = number - 1;
     let w = at / 64;
-    let word = map.words[w];
+    let word = words[w];
     (word >> (at % 64)) & 1 == 1
 }
 
@@ -91,7 +91,7 @@ pub fn clear_tops(map: BlockMap, first: Row, last: Row, rows: usize, flags: &mut
         flags[index] = 0;
         let from = if known < top { top } else { known };
         for row in from..end {
-            if is_blocked(map, Row(row)) {
+            if is_blocked(&map.words, Row(row)) {
                 known = row;
                 continue 'tops;
             }

@@ -20,16 +20,16 @@ abbrev Test : List ℕ → ℕ → ℕ → Bool
 Test words rows top = clearRows words top rows
 
 abbrev Inv-loop : tie.InvT-loop
-Inv-loop map rows flags start stop known₀ top₀ index end from row₀ known top row = (known ≡ known₀) × (top ≡ top₀) × (top ≤ row) × (row ≤ end) × ClearFrom (map .words) top row
+Inv-loop rows flags map start stop known₀ top₀ index end from row₀ known top row = (known ≡ known₀) × (top ≡ top₀) × (top ≤ row) × (row ≤ end) × ClearFrom (map .words) top row
 
 abbrev μ-loop : tie.MeasureT-loop
-μ-loop map rows flags start stop known₀ top₀ index end from row₀ known top row = end - row
+μ-loop rows flags map start stop known₀ top₀ index end from row₀ known top row = end - row
 
 abbrev Inv-tops : tie.InvT-tops
-Inv-tops map rows flags₀ start stop known₀ top₀ flags known top = (start ≤ top) × (top ≤ stop) × (length flags ≡ length flags₀) × (flags ≡ flagTops (Test (map .words) rows) start (top - start) flags₀) × (known ≤ top + rows) × ClearFrom (map .words) top known
+Inv-tops rows flags₀ map start stop known₀ top₀ flags known top = (start ≤ top) × (top ≤ stop) × (length flags ≡ length flags₀) × (flags ≡ flagTops (Test (map .words) rows) start (top - start) flags₀) × (known ≤ top + rows) × ClearFrom (map .words) top known
 
 abbrev μ-tops : tie.MeasureT-tops
-μ-tops map rows flags₀ start stop known₀ top₀ flags known top = stop - top
+μ-tops rows flags₀ map start stop known₀ top₀ flags known top = stop - top
 
 add-stop : tie.Need-add-stop Inv-loop μ-loop Inv-tops μ-tops
 add-stop c = search needs
@@ -37,7 +37,7 @@ add-stop c = search needs
 tops-holds : tie.Need-tops-holds Inv-loop μ-loop Inv-tops μ-tops
 tops-holds c =
     let a = c .before .before .args in
-    (omega arith, omega arith, refl, flags-none (Test (a .map .words) (a .rows)) (a .first .0) (a .flags .now), omega arith, clear-none (a .map .words) (a .first .0))
+    (omega arith, omega arith, refl, flags-none (Test (a .t1 .words) (a .rows)) (a .first .0) (a .flags .now), omega arith, clear-none (a .t1 .words) (a .first .0))
 
 sub-index : tie.Need-sub-index Inv-loop μ-loop Inv-tops μ-tops
 sub-index c = search needs
@@ -68,17 +68,17 @@ tops-less c = search needs
 
 tops-again : tie.Need-tops-again Inv-loop μ-loop Inv-tops μ-tops
 tops-again c =
-    let a = c .before .before .before .before .before .before .before .before .before .args in
-    let t = c .before .before .before .before .before .before .tops in
-    let l = c .before .before .before .loop in
+    let a = c .before .before .before .before .before .before .before .before .before .before .before .args in
+    let t = c .before .before .before .before .before .before .before .before .tops in
+    let l = c .before .before .before .before .before .loop in
     let e : l .top ≡ t .top = l .inv .1 in
-    let met : isSet (a .map .words) (l .row) ≡ true = sym (c .before .is-blocked .ensures) ∙ c .if2 .taken in
-    let spoilt : clearRows (a .map .words) (t .top) (a .rows) ≡ false =
-    blocked-in (a .map .words) (t .top) (a .rows) (l .row) (omega arith) (omega arith) met in (
+    let met : isSet (a .t1 .words) (l .row) ≡ true = sym (c .before .is-blocked .ensures) ∙ c .if2 .taken in
+    let spoilt : clearRows (a .t1 .words) (t .top) (a .rows) ≡ false =
+    blocked-in (a .t1 .words) (t .top) (a .rows) (l .row) (omega arith) (omega arith) met in (
       omega arith,
       omega arith,
       search needs,
-      rw e (flags-more (Test (a .map .words) (a .rows)) (a .first .0) (a .flags .now) (t .flags) (t .top) false (omega arith) (t .inv .3) spoilt),
+      rw e (flags-more (Test (a .t1 .words) (a .rows)) (a .first .0) (a .flags .now) (t .flags) (t .top) false (omega arith) (t .inv .3) spoilt),
       omega arith,
       λ row h k. l .inv .4 row (omega arith) k,
     )
@@ -91,10 +91,10 @@ loop-less c = search needs
 
 loop-again : tie.Need-loop-again Inv-loop μ-loop Inv-tops μ-tops
 loop-again c =
-    let a = c .before .before .before .before .before .before .before .before .before .before .args in
-    let l = c .before .before .before .before .loop in
-    let free : isSet (a .map .words) (l .row) ≡ false = sym (c .before .before .is-blocked .ensures) ∙ c .before .if2 .left in
-    (l .inv .0, l .inv .1, omega arith, omega arith, clear-more (a .map .words) (l .top) (l .row) (l .inv .4) free)
+    let a = c .before .before .before .before .before .before .before .before .before .before .before .before .args in
+    let l = c .before .before .before .before .before .before .loop in
+    let free : isSet (a .t1 .words) (l .row) ≡ false = sym (c .before .before .is-blocked .ensures) ∙ c .before .if2 .left in
+    (l .inv .0, l .inv .1, omega arith, omega arith, clear-more (a .t1 .words) (l .top) (l .row) (l .inv .4) free)
 
 slice-write-flags-2 : tie.Need-slice-write-flags-2 Inv-loop μ-loop Inv-tops μ-tops
 slice-write-flags-2 c =
@@ -113,12 +113,12 @@ tops-again-2 c =
     let t = c .before .before .before .before .tops in
     let l = c .before .loop in
     let e : l .top ≡ t .top = l .inv .1 in
-    let clear : clearRows (a .map .words) (t .top) (a .rows) ≡ true =
-    clear-of (a .map .words) (t .top) (a .rows) (λ row h k. l .inv .4 row (omega arith) (omega arith)) in (
+    let clear : clearRows (a .t1 .words) (t .top) (a .rows) ≡ true =
+    clear-of (a .t1 .words) (t .top) (a .rows) (λ row h k. l .inv .4 row (omega arith) (omega arith)) in (
       omega arith,
       omega arith,
       search needs,
-      rw e (flags-again (Test (a .map .words) (a .rows)) (a .first .0) (a .flags .now) (t .flags) (t .top) true (omega arith) (t .inv .3) clear),
+      rw e (flags-again (Test (a .t1 .words) (a .rows)) (a .first .0) (a .flags .now) (t .flags) (t .top) true (omega arith) (t .inv .3) clear),
       omega arith,
       λ row h k. l .inv .4 row (omega arith) (omega arith),
     )
@@ -130,7 +130,7 @@ returns : tie.Need-returns Inv-loop μ-loop Inv-tops μ-tops
 returns c =
     let a = c .before .before .before .before .args in
     let t = c .before .tops in
-    flags-all (Test (a .map .words) (a .rows)) (a .first .0) (a .flags .now) (t .flags) (a .last .0) (a .last .0 + 1) (t .top) (t .inv .3) (omega arith) (omega arith) refl
+    flags-all (Test (a .t1 .words) (a .rows)) (a .first .0) (a .flags .now) (t .flags) (a .last .0) (a .last .0 + 1) (t .top) (t .inv .3) (omega arith) (omega arith) refl
 
 pub clear-tops-spec : {M : Type 1} → statement M
 clear-tops-spec =

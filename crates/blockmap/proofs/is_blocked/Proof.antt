@@ -19,7 +19,7 @@ shr-result c = search needs
 
 returns : tie.Need-returns
 returns c =
-    let words = c .before .args .t1 .words in
+    let words = c .before .args .words .now in
     let row = c .before .args .row .0 in
     let h : 1 ≤ row = search needs in
     row-tested words row h

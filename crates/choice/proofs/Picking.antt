@@ -2,7 +2,7 @@
 -- Assumes nothing.
 use Prim.Native.Nat.{ℕ, zero, suc, _+_, _*_, _-_, _≤_, _<_}
 use mathlib.Core.Path.{_≡_, sym, _∙_}
-use mathlib.Core.Bool.{Bool, true, false, and-false}
+use mathlib.Core.Bool.{Bool, true, false, _&&_}
 use mathlib.Core.List.{List}
 use native.Mathlib.Omega.{arith}
 use native.Mathlib.Numerals.{add-one}
@@ -28,17 +28,13 @@ module _ (first last flags : List ℕ) (j i : ℕ) where
   Stands = stands first last flags j i
 
   -- at a top of the candidate its flag decides, elsewhere it cannot stand
-  pub stands-top : getD first i 0 ≤ j → j ≤ getD last i 0 → Stands ≡ eqb (getD flags (i * 1024 + (j - 1)) 0) 1
+  pub stands-inside : (leb (getD first i 0) j && leb j (getD last i 0)) ≡ true → Stands ≡ eqb (getD flags (i * 1024 + (j - 1)) 0) 1
   unfolding stands
-  stands-top a b = rw (le-leb (getD first i 0) j a, le-leb j (getD last i 0) b)
+  stands-inside t = rw t
 
-  pub stands-not-above : j < getD first i 0 → Stands ≡ false
+  pub stands-outside : (leb (getD first i 0) j && leb j (getD last i 0)) ≡ false → Stands ≡ false
   unfolding stands
-  stands-not-above a = rw (lt-leb (getD first i 0) j a)
-
-  pub stands-not-below : getD last i 0 < j → Stands ≡ false
-  unfolding stands
-  stands-not-below b = rw (lt-leb j (getD last i 0) b, and-false (leb (getD first i 0) j))
+  stands-outside t = rw t
 
   pub stands-within : Stands ≡ true → (getD first i 0 ≤ j) × (j ≤ getD last i 0)
   unfolding stands

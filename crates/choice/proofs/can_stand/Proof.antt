@@ -1,5 +1,6 @@
 -- `choice::can_stand` meets its contract. Assumes nothing.
-use Rattle.choice.specs.Filled.{stands}
+use mathlib.Core.Path.{sym}
+use Rattle.choice.proofs.Picking.{stands-inside, stands-outside}
 use borrow.Author.Needs.{needs}
 use Rattle.choice.proofs.can_stand.Statement.{statement}
 use Rattle.choice.proofs.can_stand.Tie as tie
@@ -29,12 +30,10 @@ shared-slice-read-result : tie.Need-shared-slice-read-result
 shared-slice-read-result c = search needs
 
 returns : tie.Need-returns
-unfolding stands
-returns c = let t = c .before .if1 .taken in rw t
+returns c = sym (stands-inside _ _ _ _ _ (c .before .if1 .taken))
 
 returns-2 : tie.Need-returns-2
-unfolding stands
-returns-2 c = let t = c .if1 .left in rw t
+returns-2 c = sym (stands-outside _ _ _ _ _ (c .if1 .left))
 
 pub can-stand-spec : {M : Type 1} → statement M
 can-stand-spec =

@@ -39,6 +39,7 @@ pub record Legal (board : Board) (p : Placement) : Type 0 where
 unfoldable pub firstTop : Net → Shape → ℕ
 firstTop n s = max 1 (upper n - extra s)
 
+-- min(a, H − m + 1), the last top row of a net in a shape; 0 where m is above H
 unfoldable pub lastTop : Board → Net → Shape → ℕ
 lastTop board n s = min (upper n) (board .rows + 1 - covered n s)
 

@@ -16,6 +16,7 @@ jobOf s = record { board = s .board; nets = take (s .nnets) (s .nets); blocks = 
 abbrev pub noNet : Net
 noNet = record { number = 0; left = record { 0 = 0 }; right = record { 0 = 0 }; min = 0; max = 0 }
 
+-- what an unused slot of the blocks holds
 abbrev pub noBlock : Block
 noBlock = record { track = record { 0 = 0 }; first = record { 0 = 0 }; last = record { 0 = 0 } }
 

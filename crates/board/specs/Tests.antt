@@ -25,6 +25,7 @@ isOfJob job p = anyOf (sameNet (p .net)) (job .nets)
 unfoldable pub isLong : Board → Placement → Bool
 isLong board p = leb (p .net .min) (lengthOf board (p .net) (p .shape))
 
+-- length ≤ max
 unfoldable pub isShort : Board → Placement → Bool
 isShort board p = leb (lengthOf board (p .net) (p .shape)) (p .net .max)
 
@@ -32,12 +33,15 @@ isShort board p = leb (lengthOf board (p .net) (p .shape)) (p .net .max)
 unfoldable pub isFromOne : Placement → Bool
 isFromOne p = leb 1 (p .top)
 
+-- the top is at or above the upper fixed row
 unfoldable pub isOverUpper : Placement → Bool
 isOverUpper p = leb (p .top) (upper (p .net))
 
+-- the bottom is at or below the lower fixed row
 unfoldable pub isUnderLower : Placement → Bool
 isUnderLower p = leb (lower (p .net)) (bottom p)
 
+-- the bottom is at most row H
 unfoldable pub isToLast : Board → Placement → Bool
 isToLast board p = leb (bottom p) (board .rows)
 

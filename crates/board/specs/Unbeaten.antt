@@ -12,6 +12,7 @@ pub record FilledTrack : Type 0 where
   pub sum : ℕ
   pub wires : List Placement
 
+-- a track without wires
 abbrev pub emptyTrack : FilledTrack
 emptyTrack = record { sum = 0; wires = [] }
 

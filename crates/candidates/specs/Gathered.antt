@@ -21,11 +21,13 @@ pub record Candidate : Type 0 where
   pub index : ℕ
   pub net : Net
 
+-- the candidates among ns, in their order
 unfoldable pub candidatesFrom : Job → List ℕ → ℕ → List Net → List Candidate
 candidatesFrom job earlier i [] = []
 candidatesFrom job earlier i (n ∷ ns) =
     let rest = candidatesFrom job earlier (suc i) ns in cond (isEligible job earlier n) (record { index = i; net = n } ∷ rest) rest
 
+-- the candidates of the job for a track
 unfoldable pub candidatesOf : Job → List ℕ → List Candidate
 candidatesOf job earlier = candidatesFrom job earlier 0 (job .nets)
 

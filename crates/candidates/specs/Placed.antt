@@ -43,5 +43,6 @@ unfoldable pub numbersFrom : List ℕ → ℕ → List Net → List ℕ
 numbersFrom placed i [] = []
 numbersFrom placed i (n ∷ ns) = let rest = numbersFrom placed (suc i) ns in cond (eqb (getD placed i 0) 0) rest (n .number ∷ rest)
 
+-- the numbers of the nets that have a track, in the job's order
 unfoldable pub placedNumbers : Job → List ℕ → List ℕ
 placedNumbers job placed = numbersFrom placed 0 (job .nets)

@@ -20,6 +20,7 @@ unfoldable pub indexFrom : ℕ → List Net → ℕ → ℕ
 indexFrom i [] k = noChoice
 indexFrom i (n ∷ ns) k = let more = indexFrom (suc i) ns k in cond (eqb (n .number) k) i more
 
+-- the index of a chosen net; noChoice where none is chosen
 unfoldable pub indexOf : Job → Option Net → ℕ
 indexOf job none = noChoice
 indexOf job (some n) = indexFrom 0 (job .nets) (n .number)

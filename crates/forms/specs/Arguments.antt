@@ -28,6 +28,7 @@ argumentOf s (Open next) = Missing
 argumentOf s (Shut next) = Missing
 argumentOf s (Word from to) = valueThen (number 5 (take (to - from) (drop from s))) to
 
+-- what stands as a number at a place of a line
 unfoldable pub argumentAt : List ℕ → ℕ → Argument
 argumentAt s at = argumentOf s (tokenAt s at)
 

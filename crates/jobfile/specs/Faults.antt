@@ -35,10 +35,12 @@ withForm job (Is.Block t a b) = withBlock job (blockOf t a b)
 withForm job Is.Close = job
 withForm job Is.Other = job
 
+-- the job after further lines
 unfoldable pub jobFrom : Job → List Form → Job
 jobFrom job [] = job
 jobFrom job (f ∷ fs) = jobFrom (withForm job f) fs
 
+-- the job that the lines of a text hold
 abbrev pub jobIn : List Form → Job
 jobIn fs = jobFrom noJob fs
 
@@ -53,6 +55,7 @@ isBlank (Is.Block t a b) = false
 isBlank Is.Close = false
 isBlank Is.Other = false
 
+-- the lines that are not blank
 unfoldable pub nonBlank : List Form → List Form
 nonBlank [] = []
 nonBlank (f ∷ fs) = let rest = nonBlank fs in cond (isBlank f) rest (f ∷ rest)

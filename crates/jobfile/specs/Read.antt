@@ -43,6 +43,7 @@ atStart k (sized h) x = stop (NotOfForm k)
 atStart k (filled job) x = stop (NotOfForm k)
 atStart k (closed job) x = stop (NotOfForm k)
 
+-- `(rows H)` stands right behind `(board`
 unfoldable pub atOpened : ℕ → State → Next → Next
 atOpened k start x = stop (NotOfForm k)
 atOpened k opened x = x
@@ -50,6 +51,7 @@ atOpened k (sized h) x = stop (NotOfForm k)
 atOpened k (filled job) x = stop (NotOfForm k)
 atOpened k (closed job) x = stop (NotOfForm k)
 
+-- `(tracks K)` stands right behind `(rows H)`, whose H it is told
 unfoldable pub atSized : ℕ → State → (ℕ → Next) → Next
 atSized k start f = stop (NotOfForm k)
 atSized k opened f = stop (NotOfForm k)
@@ -57,6 +59,7 @@ atSized k (sized h) f = f h
 atSized k (filled job) f = stop (NotOfForm k)
 atSized k (closed job) f = stop (NotOfForm k)
 
+-- nets, blocks and the closing bracket stand behind `(tracks K)`; they are told the job so far
 unfoldable pub atFilled : ℕ → State → (Job → Next) → Next
 atFilled k start f = stop (NotOfForm k)
 atFilled k opened f = stop (NotOfForm k)
@@ -72,18 +75,23 @@ within lo hi x = leb lo x && leb x hi
 abbrev pub netOf : ℕ → ℕ → ℕ → ℕ → ℕ → Net
 netOf i l r lo hi = record { number = i; left = record { 0 = l }; right = record { 0 = r }; min = lo; max = hi }
 
+-- the record of a block
 abbrev pub blockOf : ℕ → ℕ → ℕ → Block
 blockOf t a b = record { track = record { 0 = t }; first = record { 0 = a }; last = record { 0 = b } }
 
+-- the record of a board
 abbrev pub boardOf : ℕ → ℕ → Board
 boardOf h k = record { rows = h; tracks = k }
 
+-- the job of a board without nets and blocks
 abbrev pub emptyBoard : Board → Job
 emptyBoard board = record { board = board; nets = []; blocks = [] }
 
+-- the job with one more net
 abbrev pub withNet : Job → Net → Job
 withNet job n = record { board = job .board; nets = job .nets ++ (n ∷ []); blocks = job .blocks }
 
+-- the job with one more block
 abbrev pub withBlock : Job → Block → Job
 withBlock job b = record { board = job .board; nets = job .nets; blocks = job .blocks ++ (b ∷ []) }
 
@@ -96,6 +104,7 @@ netInRange board n =
     leb (n .min) 4095 &&
     leb (n .max) 4095
 
+-- the numbers of a block are in their ranges, and A ≤ B
 unfoldable pub blockInRange : Board → Block → Bool
 blockInRange board b =
     within 1 (board .tracks) (b .track .0) &&
@@ -155,6 +164,7 @@ ended k (sized h) = refused (NotOfForm k)
 ended k (filled job) = refused (NotOfForm k)
 ended k (closed job) = accepted job
 
+-- what a line leads to: the lines below it are read, or the text is refused
 unfoldable pub follow : Next → (State → Read) → Read
 follow (go s) f = f s
 follow (stop o) f = refused o

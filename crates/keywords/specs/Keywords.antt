@@ -7,30 +7,39 @@ use Rattle.text.specs.Bytes.{same}
 use Rattle.keywords.specs.declared.Vocabulary.{Vocabulary}
 use Rattle.keywords.specs.declared.Vocabulary.the-variants.{Job, Layout}
 
+-- board
 abbrev pub boardWord : List ℕ
 boardWord = 98 ∷ 111 ∷ 97 ∷ 114 ∷ 100 ∷ []
 
+-- rows
 abbrev pub rowsWord : List ℕ
 rowsWord = 114 ∷ 111 ∷ 119 ∷ 115 ∷ []
 
+-- tracks
 abbrev pub tracksWord : List ℕ
 tracksWord = 116 ∷ 114 ∷ 97 ∷ 99 ∷ 107 ∷ 115 ∷ []
 
+-- net
 abbrev pub netWord : List ℕ
 netWord = 110 ∷ 101 ∷ 116 ∷ []
 
+-- block
 abbrev pub blockWord : List ℕ
 blockWord = 98 ∷ 108 ∷ 111 ∷ 99 ∷ 107 ∷ []
 
+-- layout
 abbrev pub layoutWord : List ℕ
 layoutWord = 108 ∷ 97 ∷ 121 ∷ 111 ∷ 117 ∷ 116 ∷ []
 
+-- track
 abbrev pub trackWord : List ℕ
 trackWord = 116 ∷ 114 ∷ 97 ∷ 99 ∷ 107 ∷ []
 
+-- wire
 abbrev pub wireWord : List ℕ
 wireWord = 119 ∷ 105 ∷ 114 ∷ 101 ∷ []
 
+-- loose
 abbrev pub looseWord : List ℕ
 looseWord = 108 ∷ 111 ∷ 111 ∷ 115 ∷ 101 ∷ []
 

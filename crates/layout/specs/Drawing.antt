@@ -14,6 +14,7 @@ use Rattle.layout.specs.Tree.{Point, Wire}
 unfoldable pub viaColumn : ℕ → ℕ
 viaColumn t = 2 * t - 1
 
+-- the wire column of track t
 unfoldable pub wireColumn : ℕ → ℕ
 wireColumn t = 2 * t
 
@@ -34,6 +35,7 @@ distinctFrom p (q ∷ qs) = let rest = distinctFrom q qs in cond (samePoint p q)
 unfoldable pub nearRow : Placement → ℕ
 nearRow p = cond (ltb (p .net .left .0) (p .net .right .0)) (p .top) (bottom p)
 
+-- the row of the stretched part next to the right pin
 unfoldable pub farRow : Placement → ℕ
 farRow p = cond (ltb (p .net .left .0) (p .net .right .0)) (bottom p) (p .top)
 
@@ -57,10 +59,12 @@ wireOf board t p = record { number = p .net .number; points = pointsOn board t p
 unfoldable pub between : ℕ → ℕ → ℕ
 between a b = (a - b) + (b - a)
 
+-- the length of a path behind point p
 unfoldable pub pathFrom : Point → List Point → ℕ
 pathFrom p [] = 0
 pathFrom p (q ∷ qs) = between (p .column) (q .column) + between (p .row) (q .row) + pathFrom q qs
 
+-- the length of a path
 unfoldable pub pathLength : List Point → ℕ
 pathLength [] = 0
 pathLength (p ∷ ps) = pathFrom p ps

@@ -30,6 +30,7 @@ placementFrom n ps t (some u) =
     let v = lastIn (wireColumn t) u ps in
     record { net = n; shape = Stretched (max u v - min u v - span n); top = min u v }
 
+-- the one placement of net n that points can draw on track t
 unfoldable pub placementOf : ℕ → Net → List Point → Placement
 placementOf t n ps = placementFrom n ps t (firstIn (wireColumn t) ps)
 

@@ -19,6 +19,7 @@ lineText (wire w) = 32 ∷ 40 ∷ (wireWord ++ 32 ∷ (digits (w .number) ++ poi
 lineText (loose n) = 32 ∷ 40 ∷ (looseWord ++ 32 ∷ (digits n ++ 41 ∷ []))
 lineText closes = 41 ∷ []
 
+-- lines, each with its byte 10
 unfoldable pub linesText : List Line → List ℕ
 linesText [] = []
 linesText (x ∷ xs) = lineText x ++ 10 ∷ linesText xs
@@ -28,14 +29,17 @@ unfoldable pub wiresThen : List Wire → List Line → List Line
 wiresThen [] rest = rest
 wiresThen (w ∷ ws) rest = wire w ∷ wiresThen ws rest
 
+-- the lines of tracks with their wires, then the rest
 unfoldable pub tracksThen : List DrawnTrack → List Line → List Line
 tracksThen [] rest = rest
 tracksThen (t ∷ ts) rest = track (t .track) (t .sum) ∷ wiresThen (t .wires) (tracksThen ts rest)
 
+-- the lines of loose nets, then the rest
 unfoldable pub looseThen : List ℕ → List Line → List Line
 looseThen [] rest = rest
 looseThen (n ∷ ns) rest = loose n ∷ looseThen ns rest
 
+-- the lines of a layout
 unfoldable pub layoutLines : Layout → List Line
 layoutLines l = opens ∷ tracksThen (l .tracks) (looseThen (l .loose) (closes ∷ []))
 

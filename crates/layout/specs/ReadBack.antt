@@ -17,11 +17,13 @@ use Rattle.layout.specs.LayoutText.{lineText, layoutLines, layoutText}
 unfoldable pub wordsIn : List ℕ → List (List ℕ)
 wordsIn s = nonEmpty (pieces endsWord s)
 
+-- points from their numbers, two by two
 unfoldable pub pointsOf : List ℕ → List Point
 pointsOf [] = []
 pointsOf (c ∷ []) = []
 pointsOf (c ∷ r ∷ ns) = record { column = c; row = r } ∷ pointsOf ns
 
+-- the line that a word and numbers make
 unfoldable pub lineFrom : List ℕ → List ℕ → Line
 lineFrom w ns =
     cond (same w layoutWord) opens
@@ -29,6 +31,7 @@ lineFrom w ns =
     (cond (same w wireWord) (wire (record { number = getD ns 0 0; points = pointsOf (drop 1 ns) }))
     (cond (same w looseWord) (loose (getD ns 0 0)) closes)))
 
+-- what the words of a line say, whatever stands between them
 unfoldable pub roughLine : List ℕ → Line
 roughLine s = let ws = wordsIn s in lineFrom (getD ws 0 []) (map (valueFrom 0) (drop 1 ws))
 
@@ -38,6 +41,7 @@ pub record Part : Type 0 where
   pub tracks : List DrawnTrack
   pub loose : List ℕ
 
+-- one line put before those gathered
 unfoldable pub add : Line → Part → Part
 add opens p = p
 add (track t n) p = record { wires = []; tracks = record { track = t; sum = n; wires = p .wires } ∷ p .tracks; loose = p .loose }
@@ -45,10 +49,12 @@ add (wire w) p = record { wires = w ∷ p .wires; tracks = p .tracks; loose = p 
 add (loose n) p = record { wires = p .wires; tracks = p .tracks; loose = n ∷ p .loose }
 add closes p = p
 
+-- what lines hold
 unfoldable pub gathered : List Line → Part
 gathered [] = record { wires = []; tracks = []; loose = [] }
 gathered (x ∷ xs) = add x (gathered xs)
 
+-- what the lines of a text say
 unfoldable pub roughLayout : List ℕ → Layout
 roughLayout s = let p = gathered (map roughLine (lines s)) in record { tracks = p .tracks; loose = p .loose }
 
@@ -56,10 +62,12 @@ roughLayout s = let p = gathered (map roughLine (lines s)) in record { tracks = 
 abbrev pub isSmall : ℕ → Bool
 isSmall n = ltb n 1000000
 
+-- the numbers of points have at most six digits
 unfoldable pub smallPoints : List Point → Bool
 smallPoints [] = true
 smallPoints (p ∷ ps) = isSmall (p .column) && isSmall (p .row) && smallPoints ps
 
+-- the numbers of a line have at most six digits
 unfoldable pub smallLine : Line → Bool
 smallLine opens = true
 smallLine (track t n) = isSmall t && isSmall n
@@ -67,6 +75,7 @@ smallLine (wire w) = isSmall (w .number) && smallPoints (w .points)
 smallLine (loose n) = isSmall n
 smallLine closes = true
 
+-- the numbers of all lines have at most six digits
 unfoldable pub smallLines : List Line → Bool
 smallLines [] = true
 smallLines (x ∷ xs) = smallLine x && smallLines xs

@@ -26,6 +26,7 @@ stopsAt LineEnd = isEnd
 stopsAt NotSpace = notSpace
 stopsAt WordEnd = endsWord
 
+-- the end of the line at a place: its byte 10, or the end of the text
 abbrev pub lineEnd : List ℕ → ℕ → ℕ
 lineEnd s at = scan isEnd s at
 

@@ -23,6 +23,7 @@ lineWords s = nonEmpty (pieces isSpace (spaced s))
 abbrev pub opening : List ℕ
 opening = 40 ∷ []
 
+-- the closing bracket as a word
 abbrev pub closing : List ℕ
 closing = 41 ∷ []
 

@@ -37,6 +37,7 @@ module _ (job : Job) (earlier : List ℕ) (t : ℕ) where
   unfoldable pub choiceAt : ℕ → Option Net
   choiceAt j = choice (job .board .rows - j)
 
+  -- the wires that the walk takes from row j on
   unfoldable pub walkFrom : ℕ → List Placement
   walkFrom j = walk (job .board .rows + 1 - j) 0
 

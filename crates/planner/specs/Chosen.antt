@@ -49,11 +49,13 @@ abbrev pub isLoose : Stand → Bool
 isLoose Loose = true
 isLoose (Wired track top shape) = false
 
+-- of nets and their plans, those that stand on no track
 unfoldable pub looseFrom : List Net → List NetPlan → List Net
 looseFrom [] ps = []
 looseFrom (n ∷ ns) [] = []
 looseFrom (n ∷ ns) (p ∷ ps) = let more = looseFrom ns ps in cond (isLoose (p .stand)) (n ∷ more) more
 
+-- the loose nets of a plan by value
 unfoldable pub looseNets : Job → JobPlan → List Net
 looseNets job plan = looseFrom (job .nets) (plan .nets)
 

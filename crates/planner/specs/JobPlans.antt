@@ -28,6 +28,7 @@ standFrom t (tr ∷ trs) k =
       | some p ↦ Wired (record { 0 = t }) (record { 0 = p .top }) (p .shape)
     ]
 
+-- the plan of one net
 abbrev pub netPlanOf : List FilledTrack → Net → NetPlan
 netPlanOf plan n = record { stand = standFrom 1 plan (n .number) }
 

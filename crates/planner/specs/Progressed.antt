@@ -19,6 +19,7 @@ abbrev pub trackOf : Stand → ℕ
 trackOf Loose = 0
 trackOf (Wired t top shape) = t .0
 
+-- the track on which a net stands, or 0
 abbrev pub placedOn : List FilledTrack → Net → ℕ
 placedOn plan n = trackOf (standFrom 1 plan (n .number))
 
@@ -39,9 +40,11 @@ noProgress = record { placed = replicate 512 0; nets = replicate 512 noPlan; sum
 abbrev pub firstTracks : Job → ℕ → List FilledTrack
 firstTracks job t = take t (planOf job)
 
+-- the numbers of the nets on tracks 1 to t
 abbrev pub onFirst : Job → ℕ → List ℕ
 onFirst job t = numbersOn (firstTracks job t)
 
+-- what is planned after tracks 1 to t
 abbrev pub progressTo : Job → ℕ → Progress
 progressTo job t = progressOf job (firstTracks job t)
 

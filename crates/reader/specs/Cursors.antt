@@ -15,5 +15,6 @@ unfoldable pub formOn : List ℕ → Step → FormStep
 formOn s (Line from to next) = At.Read (readForm (take (to - from) (drop from s))) (record { place = next })
 formOn s End = At.End
 
+-- the form at a reading place and the next place
 unfoldable pub formStep : List ℕ → Cursor → FormStep
 formStep s c = formOn s (stepAt s (c .place))

@@ -14,6 +14,7 @@ refusedText number line =
 abbrev pub acceptedText : List ℕ
 acceptedText = 40 ∷ 97 ∷ 99 ∷ 99 ∷ 101 ∷ 112 ∷ 116 ∷ 101 ∷ 100 ∷ 41 ∷ 10 ∷ []
 
+-- what is printed for a text that was read
 unfoldable pub reportText : Read → List ℕ
 reportText (accepted job) = acceptedText
 reportText (refused o) = refusedText (numberOf o) (lineOf o)

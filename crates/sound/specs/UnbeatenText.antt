@@ -9,6 +9,7 @@ use Rattle.layout.specs.Tree.{Wire, DrawnTrack, Layout}
 use Rattle.layout.specs.ReadBack.{readLayout}
 use Rattle.sound.specs.Wires.{RivalWires, wiresSum, trackNumbers}
 
+-- what stands for a track that a layout lacks
 abbrev pub noTrack : DrawnTrack
 noTrack = record { track = 0; sum = 0; wires = [] }
 

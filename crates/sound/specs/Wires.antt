@@ -23,6 +23,7 @@ unfoldable pub worthBy : Job → Option Net → ℕ
 worthBy job none = 0
 worthBy job (some n) = worth (job .board) n
 
+-- what the net with number k is worth, 0 if no net has it
 unfoldable pub worthOf : Job → ℕ → ℕ
 worthOf job k = worthBy job (netNumbered job k)
 
@@ -35,10 +36,12 @@ sumOver f (k ∷ ks) = f k + sumOver f ks
 abbrev pub wireNumbers : List Wire → List ℕ
 wireNumbers ws = map (λ w. w .number) ws
 
+-- the numbers of the wires of tracks
 unfoldable pub trackNumbers : List DrawnTrack → List ℕ
 trackNumbers [] = []
 trackNumbers (tr ∷ trs) = wireNumbers (tr .wires) ++ trackNumbers trs
 
+-- the numbers of all lines, wires and loose nets
 unfoldable pub lineNumbers : Layout → List ℕ
 lineNumbers l = trackNumbers (l .tracks) ++ l .loose
 

@@ -35,6 +35,7 @@ isEnd b = eqb b 10
 abbrev pub isSpace : ℕ → Bool
 isSpace b = eqb b 32
 
+-- any byte but a space
 abbrev pub notSpace : ℕ → Bool
 notSpace b = not (isSpace b)
 

@@ -18,6 +18,7 @@ digitsIn (suc k) n = let more = digitsIn k (n / 10) ++ ((48 + n % 10) ∷ []) in
 unfoldable pub digits : ℕ → List ℕ
 digits n = digitsIn n n
 
+-- a decimal digit, byte 48 to 57
 abbrev pub isDigit : ℕ → Bool
 isDigit b = leb 48 b && leb b 57
 

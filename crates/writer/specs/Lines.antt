@@ -52,6 +52,7 @@ pinText l qs = pointText (at 0 l) ++ pathText (at 0 l) qs
 abbrev pub plainPath : ℕ → ℕ → ℕ → ℕ → List Point
 plainPath c w l r = at c l ∷ at c r ∷ at w r ∷ []
 
+-- the points behind the pin of a stretched wire
 abbrev pub stretchedPath : ℕ → ℕ → ℕ → ℕ → ℕ → ℕ → List Point
 stretchedPath c w l r u v = at c l ∷ at c u ∷ at (c + 1) u ∷ at (c + 1) v ∷ at c v ∷ at c r ∷ at w r ∷ []
 
@@ -63,6 +64,7 @@ placed net shape top = record { net = net; shape = shape; top = top .0 }
 abbrev pub pointsText : Board → Track → Net → Shape → Row → List ℕ
 pointsText board track net shape top = pinText (net .left .0) (corners board (track .0) (placed net shape top) shape)
 
+-- the line of the wire
 abbrev pub wireLine : Board → Track → Net → Shape → Row → List ℕ
 wireLine board track net shape top = endedLine (wire (wireOf board (track .0) (placed net shape top)))
 

@@ -12,13 +12,13 @@ ghost use Rattle.jobfile.specs.Forms.{noWord, ifLast, arguments, formAfter, for
 ghost use Rattle.forms.specs.Arguments.{argumentAt, onlyClosing, argumentsOf, formMade};
 
 // One number of a form, with the byte behind it; or something else stands there.
-pub enum Argument {
+enum Argument {
     Value(usize, usize),
     Missing,
 }
 
 // The numbers of a form, from the first on; complete where they are as many as asked and a closing bracket ends the line.
-pub struct Arguments {
+struct Arguments {
     pub complete: bool,
     pub numbers: [usize; 5],
 }

@@ -46,7 +46,7 @@ const FILLED: usize = 3;
 const CLOSED: usize = 4;
 
 // What the lines above hold: the outcome of the last of them, the stage that they come to, and the job so far.
-pub struct Progress {
+struct Progress {
     pub outcome: Outcome,
     pub stage: usize,
     pub job: StoredJob,

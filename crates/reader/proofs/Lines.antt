@@ -10,11 +10,11 @@ use Rattle.board.specs.Stored.{jobOf, storedOf}
 use Rattle.jobfile.specs.declared.Form.{Form}
 use Rattle.jobfile.specs.declared.Form.the-variants as Is
 use Rattle.jobfile.specs.declared.Outcome.{Outcome}
-use Rattle.jobfile.specs.declared.Outcome.the-variants.{Accepted, NotOfForm, OutOfRange}
+use Rattle.jobfile.specs.declared.Outcome.the-variants.{NotOfForm, OutOfRange}
 use Rattle.jobfile.specs.Read.{Next, go, stop, sized, filled, unless, within, atStart, atOpened, atSized, atFilled, netOf, blockOf, boardOf, emptyBoard, addNet, addBlock, step}
 use Rattle.jobfile.specs.Answers.{numberOf}
 use Rattle.jobrules.specs.Rules.{Filled, outcomeOf}
-use Rattle.reader.specs.Progress.{mayStand, stateOf, progressOf, Held}
+use Rattle.reader.specs.Progress.{mayStand, stateOf, onward, progressOf, Held}
 use Rattle.reader.specs.declared.Progress.{Progress}
 
 -- what the code holds behind a line that was tested
@@ -114,12 +114,12 @@ module _ (k stage : ℕ) (job : StoredJob) (form : Form) where
     unfolding mayStand
     block-filled t a b e p = filled-here (at-stage 3 (ap (mayStand stage) e) p)
 
-    pub blank-line : form ≡ Is.Blank → record { outcome = Accepted; stage = stage; job = job } ≡ progressOf (step k (stateOf stage job) form)
+    pub blank-line : form ≡ Is.Blank → onward stage job ≡ progressOf (step k (stateOf stage job) form)
     unfolding step
     blank-line e = rw e (sym (held .value))
 
     pub board-line : form ≡ Is.Board → mayStand stage form ≡ true →
-        record { outcome = Accepted; stage = 1; job = job } ≡ progressOf (step k (stateOf stage job) form)
+        onward 1 job ≡ progressOf (step k (stateOf stage job) form)
     unfolding mayStand step stateOf atStart progressOf
     board-line e p =
         let s : stage ≡ 0 = at-stage 0 (ap (mayStand stage) e) p in
@@ -127,7 +127,7 @@ module _ (k stage : ℕ) (job : StoredJob) (form : Form) where
         rw (e, s, v)
 
     pub close-line : form ≡ Is.Close → mayStand stage form ≡ true →
-        record { outcome = Accepted; stage = 4; job = job } ≡ progressOf (step k (stateOf stage job) form)
+        onward 4 job ≡ progressOf (step k (stateOf stage job) form)
     unfolding mayStand step stateOf atFilled progressOf
     close-line e p =
         let s : stage ≡ 3 = at-stage 3 (ap (mayStand stage) e) p in

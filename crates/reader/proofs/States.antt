@@ -22,7 +22,7 @@ use Rattle.jobfile.specs.Answers.{numberOf, lineOf}
 use Rattle.jobfile.proofs.Tests.{within-is}
 use Rattle.board.proofs.StoredJobs.{job-back}
 use Rattle.jobrules.specs.Rules.{Filled}
-use Rattle.reader.specs.Progress.{stateOf, progressOf, FilledAt, Held}
+use Rattle.reader.specs.Progress.{stateOf, onward, progressOf, FilledAt, Held}
 use Rattle.reader.specs.declared.Progress.{Progress}
 use Rattle.jobrules.proofs.Slots.{nets-used, blocks-used}
 
@@ -59,7 +59,7 @@ state-back (sized h) = refl
 state-back (filled job) = ap filled (job-back job)
 state-back (closed job) = ap closed (job-back job)
 
-same-progress : (s : State) → progressOf (go s) ≡ record { outcome = Accepted; stage = progressOf (go s) .stage; job = progressOf (go s) .job }
+same-progress : (s : State) → progressOf (go s) ≡ onward (progressOf (go s) .stage) (progressOf (go s) .job)
 unfolding progressOf
 same-progress start = refl
 same-progress opened = refl

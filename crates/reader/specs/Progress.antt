@@ -32,13 +32,17 @@ stateOf (suc (suc zero)) job = sized (job .board .rows)
 stateOf (suc (suc (suc zero))) job = filled (jobOf job)
 stateOf (suc (suc (suc (suc stage)))) job = closed (jobOf job)
 
--- what the code holds behind a line; nothing where the text is refused
+-- what the code holds where nothing is refused
+abbrev pub onward : ℕ → StoredJob → Progress
+onward stage job = record { outcome = Accepted; stage = stage; job = job }
+
+-- and behind any line; nothing where the text is refused
 unfoldable pub progressOf : Next → Progress
-progressOf (go start) = record { outcome = Accepted; stage = 0; job = storedOf noJob }
-progressOf (go opened) = record { outcome = Accepted; stage = 1; job = storedOf noJob }
-progressOf (go (sized h)) = record { outcome = Accepted; stage = 2; job = storedOf (emptyBoard (boardOf h 0)) }
-progressOf (go (filled job)) = record { outcome = Accepted; stage = 3; job = storedOf job }
-progressOf (go (closed job)) = record { outcome = Accepted; stage = 4; job = storedOf job }
+progressOf (go start) = onward 0 (storedOf noJob)
+progressOf (go opened) = onward 1 (storedOf noJob)
+progressOf (go (sized h)) = onward 2 (storedOf (emptyBoard (boardOf h 0)))
+progressOf (go (filled job)) = onward 3 (storedOf job)
+progressOf (go (closed job)) = onward 4 (storedOf job)
 progressOf (stop o) = record { outcome = o; stage = 0; job = storedOf noJob }
 
 -- the size in range, as far as it is known at a stage
@@ -50,5 +54,5 @@ FilledAt (suc (suc (suc stage))) job = Filled job
 
 -- a stage and a job by value that the code can hold
 pub record Held (stage : ℕ) (job : StoredJob) : Type 0 where
-  pub value : progressOf (go (stateOf stage job)) ≡ record { outcome = Accepted; stage = stage; job = job }
+  pub value : progressOf (go (stateOf stage job)) ≡ onward stage job
   pub ranges : FilledAt stage job

@@ -19,7 +19,7 @@ ghost use Rattle.jobfile.specs.Answers.{answerOf};
 ghost use Rattle.jobfile.specs.Faults.{isBlank};
 ghost use Rattle.jobrules.specs.Rules.{Filled};
 ghost use Rattle.reader.specs.Cursors.{formStep};
-ghost use Rattle.reader.specs.Progress.{mayStand, stateOf, progressOf, Held};
+ghost use Rattle.reader.specs.Progress.{mayStand, stateOf, onward, progressOf, Held};
 ghost use Rattle.reader.specs.Reports.{refusedText, reportText};
 
 // The reading place: it moves on by a whole line, never back.
@@ -92,6 +92,17 @@ fn refused(outcome: Outcome) -> Progress
     }
 }
 
+// A line that is accepted: the lines go on.
+fn accepted(stage: usize, job: StoredJob) -> Progress
+    ensures { λ r. ⌜ r ≡ onward stage job ⌝ }
+{
+    Progress {
+        outcome: Outcome::Accepted,
+        stage,
+        job,
+    }
+}
+
 // The line `(rows H)` in its place.
 fn take_rows(h: usize, line: usize) -> Progress
     ensures { λ r. ⌜ r ≡ progressOf (unless (within 1 1024 h) (Outcome.OutOfRange line) (go (sized h))) ⌝ }
@@ -99,12 +110,7 @@ fn take_rows(h: usize, line: usize) -> Progress
     if !jobrules::is_within(1, 1024, h) {
         return refused(Outcome::OutOfRange(line));
     }
-    let job = jobrules::empty_job(h, 0);
-    Progress {
-        outcome: Outcome::Accepted,
-        stage: SIZED,
-        job,
-    }
+    accepted(SIZED, jobrules::empty_job(h, 0))
 }
 
 // The line `(tracks K)` in its place.
@@ -114,12 +120,7 @@ fn take_tracks(h: usize, k: usize, line: usize) -> Progress
     if !jobrules::is_within(1, 128, k) {
         return refused(Outcome::OutOfRange(line));
     }
-    let job = jobrules::empty_job(h, k);
-    Progress {
-        outcome: Outcome::Accepted,
-        stage: FILLED,
-        job,
-    }
+    accepted(FILLED, jobrules::empty_job(h, k))
 }
 
 // A net in its place.
@@ -181,16 +182,8 @@ fn take_form(stage: usize, job: StoredJob, form: Form, line: usize) -> Progress
         return refused(Outcome::NotOfForm(line));
     }
     match form {
-        Form::Blank => Progress {
-            outcome: Outcome::Accepted,
-            stage,
-            job,
-        },
-        Form::Board => Progress {
-            outcome: Outcome::Accepted,
-            stage: OPENED,
-            job,
-        },
+        Form::Blank => accepted(stage, job),
+        Form::Board => accepted(OPENED, job),
         Form::Rows(h) => take_rows(h, line),
         Form::Tracks(k) => take_tracks(job.board.rows, k, line),
         Form::Net(number, left, right, min, max) => {
@@ -211,11 +204,7 @@ fn take_form(stage: usize, job: StoredJob, form: Form, line: usize) -> Progress
             };
             take_block(job, block, line)
         }
-        Form::Close => Progress {
-            outcome: Outcome::Accepted,
-            stage: CLOSED,
-            job,
-        },
+        Form::Close => accepted(CLOSED, job),
         Form::Other => refused(Outcome::NotOfForm(line)),
     }
 }

@@ -20,10 +20,15 @@ returns c = c .refused .ensures ∙ (rw (sym (c .before .before .is-within .ensu
 empty-job-requires : tie.Need-empty-job-requires
 empty-job-requires c κs = search needs
 
+accepted-requires : tie.Need-accepted-requires
+accepted-requires c κs = search needs
+
 returns-2 : tie.Need-returns-2
 unfolding unless progressOf
-returns-2 c = rw (sym (c .before .before .is-within .ensures) ∙ not-false _ (c .before .if1 .left), c .empty-job .ensures)
+returns-2 c =
+    c .accepted .ensures
+    ∙ (rw (sym (c .before .before .before .is-within .ensures) ∙ not-false _ (c .before .before .if1 .left), c .before .empty-job .ensures))
 
 pub take-rows-spec : {M : Type 1} → statement M
 take-rows-spec =
-    tie.close (tie.spec is-within-requires refused-requires returns empty-job-requires returns-2)
+    tie.close (tie.spec is-within-requires refused-requires returns empty-job-requires accepted-requires returns-2)

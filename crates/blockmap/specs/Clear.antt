@@ -6,9 +6,9 @@ use lib.ListN.{set}
 use Rattle.blockmap.specs.Bits.{isSet}
 
 -- none of the m rows from `top` on is blocked
-unfoldable pub clearRows : List ℕ → ℕ → ℕ → Bool
-clearRows words top zero = true
-clearRows words top (suc m) = clearRows words top m && not (isSet words (top + m))
+unfoldable pub allUnset : List ℕ → ℕ → ℕ → Bool
+allUnset words top zero = true
+allUnset words top (suc m) = allUnset words top m && not (isSet words (top + m))
 
 -- a test as a byte
 abbrev pub flag : Bool → ℕ

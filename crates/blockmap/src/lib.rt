@@ -6,7 +6,7 @@ ghost use lib.Dec.{eqb, leb};
 ghost use lib.ListN.{length, replicate};
 ghost use Rattle.board.specs.Job.{closes};
 ghost use Rattle.blockmap.specs.Bits.{isSet};
-ghost use Rattle.blockmap.specs.Clear.{clearRows, flagTops};
+ghost use Rattle.blockmap.specs.Clear.{allUnset, flagTops};
 use board::Block;
 use board::Row;
 use board::Track;
@@ -80,7 +80,7 @@ pub fn with_block_on(map: BlockMap, track: Track, block: Block) -> BlockMap
 // for the next top. `known` is the first row not known to be clear, so that no scan looks at a clear row again.
 pub fn clear_tops(map: BlockMap, first: Row, last: Row, rows: usize, flags: &mut [u8])
     requires { ⌜ (1 ≤ first .0) × (first .0 ≤ last .0) × (last .0 + rows ≤ 1025) × (last .0 ≤ length (now flags)) ⌝ }
-    ensures { λ r. ⌜ now (flags .exit) ≡ flagTops (λ top. clearRows (map .words) top rows) (first .0) (last .0 + 1 - first .0) (now (flags .entry)) ⌝ }
+    ensures { λ r. ⌜ now (flags .exit) ≡ flagTops (λ top. allUnset (map .words) top rows) (first .0) (last .0 + 1 - first .0) (now (flags .entry)) ⌝ }
 {
     let start = first.0;
     let stop = last.0 + 1;

@@ -13,11 +13,11 @@ use Rattle.board.specs.Placement.{covered, Legal, firstTop, lastTop, sho
 use Rattle.board.proofs.ShortestShape.{none-allowed, none-below-plain}
 use Rattle.board.proofs.Tops.{legal-in-tops}
 
-abbrev pub boardOf : ℕ → Board
-boardOf rows = record { rows = rows; tracks = 1 }
+abbrev pub triedBoard : ℕ → Board
+triedBoard rows = record { rows = rows; tracks = 1 }
 
-abbrev pub netOf : ℕ → ℕ → Net
-netOf least most = record { number = 1; left = record { 0 = 10 }; right = record { 0 = 14 }; min = least; max = most }
+abbrev pub triedNet : ℕ → ℕ → Net
+triedNet least most = record { number = 1; left = record { 0 = 10 }; right = record { 0 = 14 }; min = least; max = most }
 
 -- the shortest allowed length of the net is l, with stretch e and n needed rows, and its tops there are the rows `first` to `last`
 pub record Tried (board : Board) (net : Net) (l e n first last : ℕ) : Type 0 where
@@ -44,41 +44,41 @@ tried {board} {net} s k b n f t =
     }
 
 -- min = max = 23 gives e = 7, n = 12 and eight tops, 3 to 10
-pub rows-21 : Tried (boardOf 21) (netOf 23 23) 23 7 12 3 10
+pub rows-21 : Tried (triedBoard 21) (triedNet 23 23) 23 7 12 3 10
 unfolding width upper lower span plainLength shortest needed covered firstTop lastTop
 rows-21 = tried refl refl (omega arith) refl refl refl
 
 -- 20 rows give seven
-pub rows-20 : Tried (boardOf 20) (netOf 23 23) 23 7 12 3 9
+pub rows-20 : Tried (triedBoard 20) (triedNet 23 23) 23 7 12 3 9
 unfolding width upper lower span plainLength shortest needed covered firstTop lastTop
 rows-20 = tried refl refl (omega arith) refl refl refl
 
 -- 14 rows one
-pub rows-14 : Tried (boardOf 14) (netOf 23 23) 23 7 12 3 3
+pub rows-14 : Tried (triedBoard 14) (triedNet 23 23) 23 7 12 3 3
 unfolding width upper lower span plainLength shortest needed covered firstTop lastTop
 rows-14 = tried refl refl (omega arith) refl refl refl
 
 -- min 22 with max 23 gives 23
-pub min-22 : Tried (boardOf 21) (netOf 22 23) 23 7 12 3 10
+pub min-22 : Tried (triedBoard 21) (triedNet 22 23) 23 7 12 3 10
 unfolding width upper lower span plainLength shortest needed covered firstTop lastTop
 min-22 = tried refl refl (omega arith) refl refl refl
 
 -- min 8 with max 9 gives e = 0
-pub min-8 : Tried (boardOf 21) (netOf 8 9) 9 0 5 10 10
+pub min-8 : Tried (triedBoard 21) (triedNet 8 9) 9 0 5 10 10
 unfolding width upper lower span plainLength shortest needed covered firstTop lastTop
 min-8 = tried refl refl (omega arith) refl refl refl
 
 -- min 22 with max 22 has no allowed length
-pub max-22 : (s : Shape) → Allowed (boardOf 21) (netOf 22 22) s → ⊥
+pub max-22 : (s : Shape) → Allowed (triedBoard 21) (triedNet 22 22) s → ⊥
 unfolding width upper lower span plainLength shortest
-max-22 = none-allowed (boardOf 21) (netOf 22 22) .0 (omega arith)
+max-22 = none-allowed (triedBoard 21) (triedNet 22 22) .0 (omega arith)
 
 -- nor has min 8 with max 8
-pub max-8 : (s : Shape) → Allowed (boardOf 21) (netOf 8 8) s → ⊥
+pub max-8 : (s : Shape) → Allowed (triedBoard 21) (triedNet 8 8) s → ⊥
 unfolding width upper lower span plainLength shortest
-max-8 = none-allowed (boardOf 21) (netOf 8 8) .0 (omega arith)
+max-8 = none-allowed (triedBoard 21) (triedNet 8 8) .0 (omega arith)
 
 -- nor has max 6, whatever min, as D = 7
-pub max-6 : (least : ℕ) (s : Shape) → Allowed (boardOf 21) (netOf least 6) s → ⊥
+pub max-6 : (least : ℕ) (s : Shape) → Allowed (triedBoard 21) (triedNet least 6) s → ⊥
 unfolding width upper lower span plainLength
-max-6 least = none-below-plain (boardOf 21) (netOf least 6) (omega arith)
+max-6 least = none-below-plain (triedBoard 21) (triedNet least 6) (omega arith)

@@ -5,7 +5,7 @@ use lib.ListN.{length, replicate}
 use lib.Seq.{take-at}
 use Rattle.board.specs.Job.{Job}
 use Rattle.board.specs.Stored.{jobOf, noNet, noBlock, storedOf, AcceptedStored}
-use Rattle.board.specs.Accepted.{Accepted}
+use Rattle.board.specs.Accepted.{AcceptedJob}
 
 pub job-back : (job : Job) → jobOf (storedOf job) ≡ job
 unfolding storedOf
@@ -14,7 +14,7 @@ job-back job =
     let b = take-at (job .blocks) (replicate (256 - length (job .blocks)) noBlock) (length (job .blocks)) refl in
     λ i. record { board = job .board; nets = n i; blocks = b i }
 
-pub stored-accepted : (job : Job) → Accepted job → AcceptedStored (storedOf job)
+pub stored-accepted : (job : Job) → AcceptedJob job → AcceptedStored (storedOf job)
 unfolding storedOf
 stored-accepted job a =
     record { accepted = rw (job-back job) a; nets-room = a .nets-count; blocks-room = a .blocks-count }

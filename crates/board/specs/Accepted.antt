@@ -39,7 +39,7 @@ pub record AcceptedNet (board : Board) (n : Net) : Type 0 where
   pub fits-board : needed board n ≤ board .rows
 
 -- and of the whole job: 4, at most 512 nets and 256 blocks; 5, numbers rise; 6, no left row and no right row is used twice
-pub record Accepted (job : Job) : Type 0 where
+pub record AcceptedJob (job : Job) : Type 0 where
   pub board-range : BoardInRange (job .board)
   pub nets-count : length (job .nets) ≤ 512
   pub blocks-count : length (job .blocks) ≤ 256

@@ -6,7 +6,7 @@ use Rattle.board.specs.declared.Net.{Net}
 use Rattle.board.specs.declared.Block.{Block}
 use Rattle.board.specs.declared.StoredJob.{StoredJob}
 use Rattle.board.specs.Job.{Job}
-use Rattle.board.specs.Accepted.{Accepted}
+use Rattle.board.specs.Accepted.{AcceptedJob}
 
 -- the job that a value stands for: its board, its first nnets nets, its first nblocks blocks
 abbrev pub jobOf : StoredJob → Job
@@ -33,6 +33,6 @@ storedOf job =
 
 -- a job by value that no refusal turns away, and whose counts are within its arrays
 pub record AcceptedStored (s : StoredJob) : Type 0 where
-  pub accepted : Accepted (jobOf s)
+  pub accepted : AcceptedJob (jobOf s)
   pub nets-room : s .nnets ≤ 512
   pub blocks-room : s .nblocks ≤ 256

@@ -15,7 +15,7 @@ use Rattle.lists.proofs.Laws.{allOf-at, allOf-of, Each-at}
 use Rattle.board.specs.declared.Net.{Net}
 use Rattle.board.specs.Job.{Job}
 use Rattle.board.specs.Stored.{noNet}
-use Rattle.board.specs.Accepted.{Accepted}
+use Rattle.board.specs.Accepted.{AcceptedJob}
 use Rattle.board.specs.Tests.{isOn, isBefore, isEligible}
 use Rattle.board.specs.Tests as tests
 use Rattle.board.proofs.ExactTests.{precedes-exact}
@@ -43,7 +43,7 @@ index-cases f (x ∷ xs) i none found =
     let s : suc i + k ≡ i + suc k = omega arith in
     found (suc k) (omega arith) u (rw t (e ∙ s))))
 
-module _ (job : Job) (accepted : Accepted job) (placed earlier : List ℕ) (is : Placed job placed earlier) (n : Net) where
+module _ (job : Job) (accepted : AcceptedJob job) (placed earlier : List ℕ) (is : Placed job placed earlier) (n : Net) where
   -- the nets before n all stand on an earlier track, where the one that is found does
   all-on : allOf (λ m. not (isBefore m n) || isOn earlier m) (job .nets)
       ≡ (eqb (beforeIn (job .nets) n) 512 || not (eqb (getD placed (beforeIn (job .nets) n) 0) 0))
@@ -113,7 +113,7 @@ on-from placed (n ∷ ns) i (suc k) p h =
     (λ t. rw (t, e, ne-eqb (m .number) (n .number) d) rest)
 
 -- there is a list of the nets placed
-pub placed-numbers : (job : Job) (placed : List ℕ) → Accepted job → Placed job placed (placedNumbers job placed)
+pub placed-numbers : (job : Job) (placed : List ℕ) → AcceptedJob job → Placed job placed (placedNumbers job placed)
 unfolding isOn placedNumbers
 placed-numbers job placed a = record {
   each = λ k h.
@@ -131,7 +131,7 @@ same-from job a b (n ∷ ns) i f =
     rw (f 0 (omega arith), same-from job a b ns (suc i) (λ k h. f (suc k) (omega arith)))
 
 -- as any two lists of the nets placed do
-pub same-candidates : (job : Job) → Accepted job → (placed a b : List ℕ) → Placed job placed a → Placed job placed b
+pub same-candidates : (job : Job) → AcceptedJob job → (placed a b : List ℕ) → Placed job placed a → Placed job placed b
     → candidatesOf job a ≡ candidatesOf job b
 unfolding candidatesOf
 same-candidates job acc placed a b p q =

@@ -8,7 +8,7 @@ use lib.ListN.{length, getD, take, drop, length-drop, List·getD-append}
 use lib.Seq.{length-take-le, getD-append-add, getD-take}
 use borrow.Rule.Slice.PartMut.{midOf, putMid, same-len-mid}
 use Rattle.blockmap.specs.Bits.{isSet}
-use Rattle.blockmap.specs.Clear.{clearRows, flagTops}
+use Rattle.blockmap.specs.Clear.{allUnset, flagTops}
 use Rattle.blockmap.proofs.ClearRows.{clear-of}
 use Rattle.blockmap.proofs.ClearTops.{flags-same}
 use Rattle.candidates.specs.Gathered.{onPart}
@@ -23,9 +23,9 @@ part-back i f bytes part e =
 
 -- where no row is set, every top is clear
 pub all-clear : (words : List ℕ) (m first k : ℕ) (flags : List ℕ) → ((row : ℕ) → isSet words row ≡ false)
-    → flagTops (λ top. true) first k flags ≡ flagTops (λ top. clearRows words top m) first k flags
+    → flagTops (λ top. true) first k flags ≡ flagTops (λ top. allUnset words top m) first k flags
 all-clear words m first k flags h =
-    flags-same (λ top. true) (λ top. clearRows words top m) first k flags (λ top a b. sym (clear-of words top m (λ row p q. h row)))
+    flags-same (λ top. true) (λ top. allUnset words top m) first k flags (λ top a b. sym (clear-of words top m (λ row p q. h row)))
 
 -- the same done to a part in two ways
 pub part-same : (i : ℕ) (f g : List ℕ → List ℕ) (bytes : List ℕ) → ((part : List ℕ) → f part ≡ g part) → onPart i f bytes ≡ onPart i g bytes

@@ -17,7 +17,7 @@ use Rattle.board.proofs.ShortestShape.{needed-covered, needed-pos}
 use Rattle.board.proofs.Tops.{accepted-fits, first-top-one, some-top, last-top-room}
 use Rattle.board.specs.Tests.{isEligible}
 use Rattle.blockmap.specs.Bits.{isSet}
-use Rattle.blockmap.specs.Clear.{clearRows, flagTops}
+use Rattle.blockmap.specs.Clear.{allUnset, flagTops}
 use Rattle.blockmap.proofs.ClearTops.{flags-length}
 use Rattle.candidates.specs.declared.Candidates.{Candidates}
 use Rattle.candidates.specs.declared.NetTops.{NetTops}
@@ -93,7 +93,7 @@ module _ (s : StoredJob) (accepted : AcceptedStored s) (net-size : length (s .ne
     -- an eligible net
     pub passed-take : 524288 ≤ length before → Passed s placed words before found flags i → eligibleAt (getD (precedingOf (jobOf s)) i 0) placed i ≡ true
         → (tops : NetTops) → TopsOf (s .board) (getD (s .nets) i noNet) tops → (after : List ℕ)
-        → after ≡ onPart (found .count) (flagTops (λ top. clearRows words top (tops .need)) (tops .first .0) (tops .last .0 + 1 - tops .first .0)) flags
+        → after ≡ onPart (found .count) (flagTops (λ top. allUnset words top (tops .need)) (tops .first .0) (tops .last .0 + 1 - tops .first .0)) flags
         → Passed s placed words before (withSlot found (record { index = i; net = getD (s .nets) i noNet }) tops) after (i + 1)
     unfolding arraysOf
     passed-take room p e tops is after a =
@@ -110,7 +110,7 @@ module _ (s : StoredJob) (accepted : AcceptedStored s) (net-size : length (s .ne
         let part : found .count * 1024 + 1024 ≤ length flags = omega (arith, p .size) in
         let first = tops .first .0 in
         let count = tops .last .0 + 1 - tops .first .0 in
-        let test : ℕ → Bool = λ top. clearRows words top (tops .need) in
+        let test : ℕ → Bool = λ top. allUnset words top (tops .need) in
         record {
           arrays = rw more (arrays-more (s .board) found xs x tops (p .arrays) (omega arith) is);
           size = ap length a ∙ part-length (found .count) (flagTops test first count) flags (flags-length test first count) part ∙ p .size;

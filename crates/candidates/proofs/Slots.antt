@@ -11,12 +11,12 @@ use Rattle.board.specs.declared.Board.{Board}
 use Rattle.board.specs.Length.{shortest, needed, worth}
 use Rattle.board.specs.Job.{Job, blocked}
 use Rattle.board.specs.Placement.{firstTop, lastTop}
-use Rattle.board.specs.Accepted.{Accepted}
+use Rattle.board.specs.Accepted.{AcceptedJob}
 use Rattle.board.proofs.Tops.{first-top-one, top-range}
 use Rattle.board.specs.Tests as tests
 use Rattle.board.proofs.ExactTests.{clear-rows, rows-clear}
 use Rattle.blockmap.specs.Bits.{isSet}
-use Rattle.blockmap.specs.Clear.{clearRows, flag, flagTops}
+use Rattle.blockmap.specs.Clear.{allUnset, flag, flagTops}
 use Rattle.blockmap.proofs.ClearRows.{clear-at, clear-of}
 use Rattle.blockmap.proofs.ClearTops.{flags-same, flags-length, flags-at}
 use Rattle.candidates.specs.declared.Candidates.{Candidates}
@@ -29,9 +29,9 @@ use Rattle.candidates.proofs.FlagParts.{part-same, part-length, part-at
 
 -- ---- rows that are clear in the block map are clear of blocks
 pub clear-same : (job : Job) (t : ℕ) (words : List ℕ) → ((row : ℕ) → isSet words row ≡ blocked job t row)
-    → (top m : ℕ) → clearRows words top m ≡ tests.clearRows job t top m
+    → (top m : ℕ) → allUnset words top m ≡ tests.clearRows job t top m
 clear-same job t words map top m =
-    by-test (clearRows words top m)
+    by-test (allUnset words top m)
     (λ e. e ∙ sym (rows-clear job t top m (λ row a b. sym (map row) ∙ clear-at words top m e row a b)))
     (λ e.
     by-test (tests.clearRows job t top m)
@@ -78,17 +78,17 @@ padded-size d xs h = length-append xs (replicate (512 - length xs) d) ∙ ap (λ
 -- part i, flagged by the block map, is that of the candidate
 pub slot-flagged : (job : Job) (t : ℕ) (words : List ℕ) → ((row : ℕ) → isSet words row ≡ blocked job t row)
     → (x : Candidate) (tops : NetTops) → TopsOf (job .board) (x .net) tops → (i : ℕ) (bytes : List ℕ)
-    → onPart i (flagTops (λ top. clearRows words top (tops .need)) (tops .first .0) (tops .last .0 + 1 - tops .first .0)) bytes ≡ flagSlot job t i x bytes
+    → onPart i (flagTops (λ top. allUnset words top (tops .need)) (tops .first .0) (tops .last .0 + 1 - tops .first .0)) bytes ≡ flagSlot job t i x bytes
 unfolding flagSlot
 slot-flagged job t words map x tops e i bytes =
     let first = tops .first .0 in
     let count = tops .last .0 + 1 - tops .first .0 in
     let new : ℕ → Bool = λ top. tests.clearRows job t top (needed (job .board) (x .net)) in
-    part-same i (flagTops (λ top. clearRows words top (tops .need)) first count)
+    part-same i (flagTops (λ top. allUnset words top (tops .need)) first count)
     (flagTops new (firstTop (x .net) (shortest (job .board) (x .net))) (lastTop (job .board) (x .net) (shortest (job .board) (x .net)) + 1 - firstTop (x .net) (shortest (job .board) (x .net))))
     bytes
     (λ part.
-    flags-same (λ top. clearRows words top (tops .need)) new first count part
+    flags-same (λ top. allUnset words top (tops .need)) new first count part
     (λ top a b. clear-same job t words map top (tops .need) ∙ ap (λ m. tests.clearRows job t top m) (e .need))
     ∙ rw (e .first, e .last) refl)
 
@@ -198,7 +198,7 @@ module _ (job : Job) (t : ℕ) where
       )
 
 -- the arrays and the flags hold the candidates
-pub gathered : (job : Job) (earlier : List ℕ) (t : ℕ) (c : Candidates) (before after : List ℕ) → Accepted job → 524288 ≤ length before
+pub gathered : (job : Job) (earlier : List ℕ) (t : ℕ) (c : Candidates) (before after : List ℕ) → AcceptedJob job → 524288 ≤ length before
     → c ≡ arraysOf (job .board) (candidatesOf job earlier) → after ≡ flagSlots job t 0 (candidatesOf job earlier) before → Gathered job earlier t c after
 unfolding candidatesOf arraysOf
 gathered job earlier t c before after a room e f =

@@ -10,7 +10,7 @@ ghost use Rattle.board.specs.Job.{blocked};
 ghost use Rattle.board.specs.Stored.{jobOf};
 ghost use Rattle.board.specs.Accepted.{BoardInRange, AcceptedNet};
 ghost use Rattle.blockmap.specs.Bits.{isSet};
-ghost use Rattle.blockmap.specs.Clear.{clearRows, flagTops};
+ghost use Rattle.blockmap.specs.Clear.{allUnset, flagTops};
 ghost use Rattle.board.specs.Stored.{AcceptedStored};
 ghost use Rattle.candidates.specs.Placed.{indexFrom, precedingOf, eligibleAt, hasBlocks};
 ghost use Rattle.candidates.specs.Gathered.{TopsOf, arraysOf, onPart, GatheredFrom};
@@ -135,7 +135,7 @@ fn flag_part(map: BlockMap, any: bool, tops: NetTops, i: usize, flags: &mut [u8]
     requires { ⌜ (any ≡ false → (row : ℕ) → isSet (map .words) row ≡ false) ⌝ }
     requires { ⌜ (1 ≤ tops .first .0) × (tops .first .0 ≤ tops .last .0) × (1 ≤ tops .need) × (tops .last .0 + tops .need ≤ 1025) ⌝ }
     requires { ⌜ (i < 512) × (524288 ≤ length (now flags)) ⌝ }
-    ensures { λ r. ⌜ now (flags .exit) ≡ onPart i (flagTops (λ top. clearRows (map .words) top (tops .need)) (tops .first .0) (tops .last .0 + 1 - tops .first .0)) (now (flags .entry)) ⌝ }
+    ensures { λ r. ⌜ now (flags .exit) ≡ onPart i (flagTops (λ top. allUnset (map .words) top (tops .need)) (tops .first .0) (tops .last .0 + 1 - tops .first .0)) (now (flags .entry)) ⌝ }
 {
     let from = i * 1024;
     let to = from + 1024;

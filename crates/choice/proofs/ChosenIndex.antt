@@ -4,13 +4,15 @@ use mathlib.Core.Path.{_≡_, sym, ap, _∙_}
 use mathlib.Core.Option.{some}
 use mathlib.Core.List.{List, [], _∷_, nil≢cons, head-eq-of-cons-eq, tail-eq-of-cons-eq}
 use native.Mathlib.Omega.{arith}
+use lib.Dec.{eqb}
 use lib.ListN.{drop}
 use lib.Seq.{drop-nil}
 use borrow.Author.Tests.{eq-eqb, ne-eqb}
 use Rattle.lists.specs.Lists.{Each, EachPair}
 use Rattle.board.specs.declared.Net.{Net}
 use Rattle.board.specs.Job.{Job}
-use Rattle.choice.specs.TrackPlans.{indexFrom, indexOf}
+use Rattle.candidates.specs.Placed.{indexFrom}
+use Rattle.choice.specs.TrackPlans.{indexOf}
 
 -- the net at place x, and what follows it
 pub Each-drop : {A : Type 0} (P : A → Type 0) (l : List A) (x : ℕ) {n : A} {ns : List A} → drop x l ≡ n ∷ ns → Each P l → P n
@@ -24,7 +26,7 @@ drop-next (m ∷ l) zero e = tail-eq-of-cons-eq e
 drop-next (m ∷ l) (suc x) e = drop-next l x e
 
 index-place : (i : ℕ) (l : List Net) (x : ℕ) {n : Net} {ns : List Net} → EachPair (λ a b. a .number < b .number) l → drop x l ≡ n ∷ ns →
-    indexFrom i l (n .number) ≡ i + x
+    indexFrom (λ m. eqb (m .number) (n .number)) i l ≡ i + x
 unfolding indexFrom
 index-place i [] x r e = absurd (nil≢cons (sym (drop-nil x) ∙ e))
 index-place i (m ∷ l) zero {n} r e = rw (eq-eqb (m .number) (n .number) (ap (λ (k : Net). k .number) (head-eq-of-cons-eq e))) (omega arith)

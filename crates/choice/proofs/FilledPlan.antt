@@ -10,7 +10,7 @@ use borrow.Author.Tests.{eqb-true, eqb-false}
 use Rattle.lists.specs.Lists.{EachPair}
 use Rattle.lists.proofs.Cases.{by-test}
 use Rattle.board.specs.Job.{Job}
-use Rattle.board.specs.Accepted.{Accepted}
+use Rattle.board.specs.Accepted.{AcceptedJob}
 use Rattle.packing.specs.Best.{best}
 use Rattle.packing.specs.Walk.{choiceAt}
 use Rattle.packing.proofs.ByRow.{best-last}
@@ -88,7 +88,7 @@ module _ (job : Job) (earlier : List ℕ) (t : ℕ) (c : Candidates) (flags : Li
         λ i. record { choice = d i; sum = s i }
     fill-below (suc i) table choice h b = fill-below i _ _ (omega arith) (row-below i table choice h b _ refl)
 
-  pub filled-plan : Accepted job → Gathered job earlier t c flags → filled c flags (job .board .rows) ≡ trackPlanOf job earlier t
+  pub filled-plan : AcceptedJob job → Gathered job earlier t c flags → filled c flags (job .board .rows) ≡ trackPlanOf job earlier t
   unfolding filled
   filled-plan a g =
       let r = a .board-range .rows-range in

@@ -16,7 +16,7 @@ use Rattle.choice.specs.Filled.{sumAt, pickTo, fillFrom, filled, InBound
 use Rattle.choice.proofs.Picking.{pick-low}
 
 -- what holds before a turn, where rows 1 to j are still to be filled
-pub record Going (c : Candidates) (flags : List ℕ) (rows : ℕ) (best choice : List ℕ) (j : ℕ) : Type 0 where
+pub record RowsLeft (c : Candidates) (flags : List ℕ) (rows : ℕ) (best choice : List ℕ) (j : ℕ) : Type 0 where
   pub in-range : j ≤ rows
   pub best-length : length best ≡ 1026
   pub choice-length : length choice ≡ 1024
@@ -25,11 +25,11 @@ pub record Going (c : Candidates) (flags : List ℕ) (rows : ℕ) (best choice :
 
 module _ (c : Candidates) (flags : List ℕ) (rows : ℕ) (b : InBounds c flags rows) where
   abbrev Now : List ℕ → List ℕ → ℕ → Type 0
-  Now best choice j = Going c flags rows best choice j
+  Now best choice j = RowsLeft c flags rows best choice j
 
-  pub going-start : Now (replicate 1026 0) (replicate 1024 noChoice) rows
+  pub rows-left-start : Now (replicate 1026 0) (replicate 1024 noChoice) rows
   unfolding filled
-  going-start =
+  rows-left-start =
       record {
         in-range = omega arith;
         best-length = length-replicate {A = ℕ} 1026 0;
@@ -45,8 +45,8 @@ module _ (c : Candidates) (flags : List ℕ) (rows : ℕ) (b : InBounds c flags 
       let k = b .slots i h in
       omega (arith, g .low (j + getD (c .need) i 0) (omega arith) (omega arith))
 
-  pub going-row : (best choice : List ℕ) (j : ℕ) → 0 < j → Now best choice j → RowInBounds c flags best j
-  going-row best choice j h g =
+  pub rows-left-row : (best choice : List ℕ) (j : ℕ) → 0 < j → Now best choice j → RowInBounds c flags best j
+  rows-left-row best choice j h g =
       record {
         row-range = omega arith;
         count-range = b .count-range;
@@ -74,15 +74,15 @@ module _ (c : Candidates) (flags : List ℕ) (rows : ℕ) (b : InBounds c flags 
         same = rw q (g .same);
       }
 
-  pub going-again : (best choice : List ℕ) (j : ℕ) (p : Pick) → 0 < j → Now best choice j → p ≡ pickTo c flags best j (c .count) →
+  pub rows-left-again : (best choice : List ℕ) (j : ℕ) (p : Pick) → 0 < j → Now best choice j → p ≡ pickTo c flags best j (c .count) →
       Now (set best j (p .sum)) (set choice (j - 1) (p .at)) (j - 1)
-  going-again best choice zero p h g e = absurd (omega arith)
-  going-again best choice (suc i) p h g e =
+  rows-left-again best choice zero p h g e = absurd (omega arith)
+  rows-left-again best choice (suc i) p h g e =
       let e′ : suc i - 1 ≡ i = omega arith in
       rw e′ (row-again best choice i p g e)
 
-  pub going-end : (best choice : List ℕ) (j : ℕ) → j ≤ 0 → Now best choice j →
+  pub rows-left-end : (best choice : List ℕ) (j : ℕ) → j ≤ 0 → Now best choice j →
       _≡_ {A = TrackPlan} (record { choice = choice; sum = getD best 1 0 }) (filled c flags rows)
   unfolding fillFrom
-  going-end best choice zero h g = g .same
-  going-end best choice (suc j) h g = absurd (omega arith)
+  rows-left-end best choice zero h g = g .same
+  rows-left-end best choice (suc j) h g = absurd (omega arith)

@@ -10,7 +10,7 @@ use Rattle.lists.proofs.Cases.{by-test}
 use Rattle.board.specs.declared.Net.{Net}
 use Rattle.board.specs.Length.{shortest}
 use Rattle.board.specs.Job.{Job}
-use Rattle.board.specs.Accepted.{BoardInRange, AcceptedNet, Accepted}
+use Rattle.board.specs.Accepted.{BoardInRange, AcceptedNet, AcceptedJob}
 use Rattle.board.proofs.ShortestShape.{needed-covered, needed-pos, worth-range}
 use Rattle.board.proofs.Tops.{last-top-room, accepted-fits}
 use Rattle.board.specs.Tests.{isEligible}
@@ -44,7 +44,7 @@ module _ (job : Job) (earlier : List ℕ) (t : ℕ) (c : Candidates) (flags : Li
       let s′ = subst (λ l. Slots job t c flags i l × (k < i + length l)) (candidates-other job earlier x n ns e) s in
       slots-bounds b ns (suc x) i k (λ m l. a m (List·Memᴰ·tail l)) s′ h)
 
-  pub gathered-bounds : Accepted job → Gathered job earlier t c flags → 524288 ≤ length flags → InBounds c flags (job .board .rows)
+  pub gathered-bounds : AcceptedJob job → Gathered job earlier t c flags → 524288 ≤ length flags → InBounds c flags (job .board .rows)
   unfolding candidatesOf
   gathered-bounds a g f =
       let m = candidates-count job earlier 0 (job .nets) in

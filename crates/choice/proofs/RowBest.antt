@@ -51,7 +51,7 @@ module _ (job : Job) (earlier : List ℕ) (t : ℕ) (c : Candidates) (flags : Li
 
   module _ (below best : List ℕ) where
     -- the pick by index and the pick by net are the same
-    pub record Same (p : Pick) (q : O.Pick) : Type 0 where
+    pub record Same (p : Pick) (q : O.PassPick) : Type 0 where
       pub sum : p .sum ≡ q .sum
       pub net : p .at ≡ indexOf job (q .net)
 
@@ -62,8 +62,8 @@ module _ (job : Job) (earlier : List ℕ) (t : ℕ) (c : Candidates) (flags : Li
     abbrev To : ℕ → Pick
     To i = pickTo c flags best j i
 
-    abbrev Nets : List Net → O.Pick → O.Pick
-    Nets ns q = O.scan job earlier t j below ns q
+    abbrev Nets : List Net → O.PassPick → O.PassPick
+    Nets ns q = O.onePass job earlier t j below ns q
 
     slot-sum : Holds → (i : ℕ) (x : Candidate) → Slot job t c flags i x → fitsAt job earlier t (x .net) j ≡ true →
         sumAt c best j i ≡ sumWith (job .board) below (x .net)
@@ -71,8 +71,8 @@ module _ (job : Job) (earlier : List ℕ) (t : ℕ) (c : Candidates) (flags : Li
     slot-sum h i x s f = rw (s .worth-is, s .need, h (x .net) f)
 
     -- one candidate more, and the same net in the pass over all nets; `go` is the rest of both
-    step-same : Holds → (i m : ℕ) (x : Candidate) (ns : List Net) (q : O.Pick) → Slot job t c flags i x → isEligible job earlier (x .net) ≡ true →
-        x .index ≡ indexOf job (some (x .net)) → Same (To i) q → ((r : O.Pick) → Same (To (suc i)) r → Same (To m) (Nets ns r)) →
+    step-same : Holds → (i m : ℕ) (x : Candidate) (ns : List Net) (q : O.PassPick) → Slot job t c flags i x → isEligible job earlier (x .net) ≡ true →
+        x .index ≡ indexOf job (some (x .net)) → Same (To i) q → ((r : O.PassPick) → Same (To (suc i)) r → Same (To m) (Nets ns r)) →
         Same (To m) (Nets (x .net ∷ ns) q)
     step-same h i m x ns q s e d k go =
         by-test (fitsAt job earlier t (x .net) j)
@@ -95,9 +95,9 @@ module _ (job : Job) (earlier : List ℕ) (t : ℕ) (c : Candidates) (flags : Li
         subst (Same (To m)) (sym (O.scan-pass job earlier t j below (x .net) ns q f)) (go q (subst (λ p. Same p q) (sym a) k)))
 
     -- the nets from place x on, of which the candidates stand in the slots from i to before m
-    scan-same : Holds → EachPair (λ a b. a .number < b .number) (job .nets) → (ns : List Net) (x i m : ℕ) (q : O.Pick) → drop x (job .nets) ≡ ns →
+    scan-same : Holds → EachPair (λ a b. a .number < b .number) (job .nets) → (ns : List Net) (x i m : ℕ) (q : O.PassPick) → drop x (job .nets) ≡ ns →
         Slots job t c flags i (candidatesFrom job earlier x ns) × (m ≡ i + length (candidatesFrom job earlier x ns)) → Same (To i) q → Same (To m) (Nets ns q)
-    unfolding candidatesFrom O.scan
+    unfolding candidatesFrom O.onePass
     scan-same h r [] x i m q d s k = let e : m ≡ i = omega (arith, s .1) in subst (λ a. Same (To a) q) (sym e) k
     scan-same h r (n ∷ ns) x i m q d s k =
         by-test (isEligible job earlier n)

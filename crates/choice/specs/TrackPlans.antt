@@ -1,12 +1,12 @@
 -- The plan of a track by value: best(1), and for each row the index of the net chosen there.
 use Prim.Native.Nat.{ℕ, zero, suc, _-_}
-use mathlib.Core.Bool.{cond}
 use mathlib.Core.Option.{Option, none, some}
 use mathlib.Core.List.{List, [], _∷_, _++_}
 use lib.Dec.{eqb}
 use lib.ListN.{replicate}
 use Rattle.board.specs.declared.Net.{Net}
 use Rattle.board.specs.Job.{Job}
+use Rattle.candidates.specs.Placed.{indexFrom}
 use Rattle.packing.specs.Best.{best}
 use Rattle.packing.specs.Walk.{choiceAt}
 use Rattle.choice.specs.declared.TrackPlan.{TrackPlan}
@@ -15,15 +15,10 @@ use Rattle.choice.specs.declared.TrackPlan.{TrackPlan}
 abbrev pub noChoice : ℕ
 noChoice = 512
 
--- the index of the net with number k among ns, the first of which has index i; noChoice where there is none
-unfoldable pub indexFrom : ℕ → List Net → ℕ → ℕ
-indexFrom i [] k = noChoice
-indexFrom i (n ∷ ns) k = let more = indexFrom (suc i) ns k in cond (eqb (n .number) k) i more
-
--- the index of a chosen net; noChoice where none is chosen
+-- the index of a chosen net, by its number; noChoice where none is chosen
 unfoldable pub indexOf : Job → Option Net → ℕ
 indexOf job none = noChoice
-indexOf job (some n) = indexFrom 0 (job .nets) (n .number)
+indexOf job (some n) = indexFrom (λ m. eqb (m .number) (n .number)) 0 (job .nets)
 
 -- the choices of the last k rows, row H − k + 1 first
 unfoldable pub choicesOf : Job → List ℕ → ℕ → ℕ → List ℕ

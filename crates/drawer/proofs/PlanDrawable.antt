@@ -16,7 +16,7 @@ use Rattle.board.specs.Job.{Job}
 use Rattle.board.specs.Placement.{Placement, Legal}
 use Rattle.board.specs.Rival.{Placeable, Rival}
 use Rattle.board.specs.Unbeaten.{FilledTrack, emptyTrack, numbersOn}
-use Rattle.board.specs.Accepted.{Accepted}
+use Rattle.board.specs.Accepted.{AcceptedJob}
 use Rattle.routing.specs.Route.{routeLayout, routeText}
 use Rattle.planning.specs.Plan.{planOf}
 use Rattle.planning.proofs.PlanUnbeaten.{plan-unbeaten}
@@ -29,7 +29,7 @@ use Rattle.planner.proofs.TracksOfPlan.{tracks-of-plan}
 use Rattle.planner.proofs.PlanIsBest.{loose-of-plan}
 use Rattle.drawer.specs.PlanText.{planLayout, planText, rowOn, DrawableStand, OtherPlace, DrawablePlan}
 
-pub plan-is-route : (job : Job) → Accepted job → planText job (jobPlanOf job) ≡ routeText job
+pub plan-is-route : (job : Job) → AcceptedJob job → planText job (jobPlanOf job) ≡ routeText job
 unfolding planText planLayout routeText routeLayout
 plan-is-route job a = rw (tracks-of-plan job a, loose-of-plan job)
 
@@ -83,7 +83,7 @@ on-there t u p h =
     (λ e. let z : 1 ≤ 0 = rw e at h in absurd (omega arith))
 
 -- ---- the plan of an accepted job
-module _ (job : Job) (a : Accepted job) where
+module _ (job : Job) (a : AcceptedJob job) where
   abbrev plan : List FilledTrack
   plan = planOf job
 

@@ -8,7 +8,7 @@ use Rattle.lists.specs.Lists.{Each}
 use Rattle.lists.proofs.Joins.{Each-each}
 use Rattle.board.specs.declared.Net.{Net}
 use Rattle.board.specs.Job.{Job}
-use Rattle.board.specs.Accepted.{Accepted}
+use Rattle.board.specs.Accepted.{AcceptedJob}
 use Rattle.board.specs.Rival.{worthSum}
 use Rattle.board.specs.Unbeaten.{FilledTrack}
 use Rattle.board.proofs.ShortestShape.{worth-needed}
@@ -51,7 +51,7 @@ unfolding jobPlanOf storedPlan
 added-plan job = added-tracks (planOf job) (128 - length (planOf job))
 
 -- ---- the sums are within what the nets of the job are worth
-module _ (job : Job) (a : Accepted job) where
+module _ (job : Job) (a : AcceptedJob job) where
   worth-most : (ns : List Net) → Each (λ n. List·Memᴰ n (job .nets)) ns → worthSum (job .board) ns ≤ 1024 * length ns
   unfolding worthSum
   worth-most [] i = omega arith

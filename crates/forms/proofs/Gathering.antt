@@ -11,12 +11,12 @@ use lib.Seq.{drop-cons, take-suc-set, append-snoc}
 use borrow.Author.Tests.{ne-eqb}
 use Rattle.lists.specs.Lists.{allOf}
 use Rattle.text.specs.Bytes.{same, isBracket}
-use Rattle.text.specs.Digits.{number, numberOf}
+use Rattle.text.specs.Digits.{number, asNumber}
 use Rattle.text.specs.declared.Number.the-variants as Read
 use Rattle.lines.specs.Tokens.{tokenAt, tokenWords, lineWords}
 use Rattle.lines.specs.declared.Token.{Token}
 use Rattle.lines.specs.declared.Token.the-variants.{Nothing, Open, Shut, Word}
-use Rattle.lines.proofs.Tokens.{Placed, Tokened, tokened}
+use Rattle.lines.proofs.Tokens.{TokenPlaced, Tokened, tokened}
 use Rattle.jobfile.specs.Forms.{noWord, consNumber, arguments}
 use Rattle.forms.specs.Arguments.{valueThen, argumentOf, argumentAt, onlyClosing}
 use Rattle.forms.specs.declared.Argument.{Argument}
@@ -27,7 +27,7 @@ pub token-is : (s : List ℕ) (at : ℕ) (r : Token) → r ≡ tokenAt s at → 
 token-is s at r e = rw e (tokened s at)
 
 -- a word is no bracket
-pub word-is-none : (s : List ℕ) (at from to c : ℕ) → Placed s at (Word from to) → isBracket c ≡ true →
+pub word-is-none : (s : List ℕ) (at from to c : ℕ) → TokenPlaced s at (Word from to) → isBracket c ≡ true →
     same (take (to - from) (drop from s)) (c ∷ []) ≡ false
 unfolding same
 word-is-none s at from to c p e =
@@ -38,13 +38,13 @@ word-is-none s at from to c p e =
 -- ---- one number
 
 -- what the answer for a number says of the word
-pub value-is : (o : Option ℕ) (v next : ℕ) → Read.Value v ≡ numberOf o → Value v next ≡ valueThen o next
-unfolding numberOf valueThen
+pub value-is : (o : Option ℕ) (v next : ℕ) → Read.Value v ≡ asNumber o → Value v next ≡ valueThen o next
+unfolding asNumber valueThen
 value-is none v next e = cc
 value-is (some n) v next e = cc
 
-pub bad-is : (o : Option ℕ) (next : ℕ) → Read.Bad ≡ numberOf o → Missing ≡ valueThen o next
-unfolding numberOf valueThen
+pub bad-is : (o : Option ℕ) (next : ℕ) → Read.Bad ≡ asNumber o → Missing ≡ valueThen o next
+unfolding asNumber valueThen
 bad-is none next e = refl
 bad-is (some n) next e = cc
 
@@ -53,14 +53,14 @@ unfoldable pub argumentThen : List ℕ → ℕ → Argument → Option (List ℕ
 argumentThen s k (Value v next) = consNumber (some v) (arguments k (lineWords (drop next s)))
 argumentThen s k Missing = none
 
-abbrev pub Behind : List ℕ → Argument → Type 0
-Behind s (Value v next) = next ≤ length s
-Behind s Missing = Unit {0}
+abbrev pub InLine : List ℕ → Argument → Type 0
+InLine s (Value v next) = next ≤ length s
+InLine s Missing = Unit {0}
 
 -- the number at a place decides, with what stands behind it, how many numbers stand there
 pub record Argued (s : List ℕ) (at : ℕ) (r : Argument) : Type 0 where
   pub first : (k : ℕ) → arguments (suc k) (lineWords (drop at s)) ≡ argumentThen s k r
-  pub within : Behind s r
+  pub within : InLine s r
 
 word-argued : (s : List ℕ) (at from to : ℕ) (o : Option ℕ) → Tokened s at (Word from to) →
     number 5 (take (to - from) (drop from s)) ≡ o → Argued s at (valueThen o to)
@@ -105,19 +105,19 @@ prefixed-last xs true = rw append-nil
 prefixed-last xs false = refl
 
 -- of k numbers from the place `at` on, the first j are in n, and the others begin at p
-pub record Gathered (s : List ℕ) (at k : ℕ) (n : List ℕ) (p j : ℕ) : Type 0 where
+pub record ArgumentsRead (s : List ℕ) (at k : ℕ) (n : List ℕ) (p j : ℕ) : Type 0 where
   pub some-left : j ≤ k
   pub inside : p ≤ length s
   pub room : length n ≡ 5
   pub rest : arguments k (lineWords (drop at s)) ≡ prefixed (take j n) (arguments (k - j) (lineWords (drop p s)))
 
-pub gathered-none : (s : List ℕ) (at k : ℕ) (n : List ℕ) → at ≤ length s → length n ≡ 5 → Gathered s at k n at 0
+pub gathered-none : (s : List ℕ) (at k : ℕ) (n : List ℕ) → at ≤ length s → length n ≡ 5 → ArgumentsRead s at k n at 0
 gathered-none s at k n h r =
     let e : k - 0 ≡ k = omega arith in
     record { some-left = omega arith; inside = h; room = r; rest = rw e (prefixed-nil (arguments k (lineWords (drop at s)))) }
 
-pub gathered-more : {s : List ℕ} {at k : ℕ} {n : List ℕ} {p j v next : ℕ} → Gathered s at k n p j → j < k → k ≤ 5 →
-    Argued s p (Value v next) → Gathered s at k (set n j v) next (j + 1)
+pub gathered-more : {s : List ℕ} {at k : ℕ} {n : List ℕ} {p j v next : ℕ} → ArgumentsRead s at k n p j → j < k → k ≤ 5 →
+    Argued s p (Value v next) → ArgumentsRead s at k (set n j v) next (j + 1)
 unfolding argumentThen
 gathered-more {s} {at} {k} {n} {p} {j} {v} {next} g h m a =
     let e : k - j ≡ suc (k - (j + 1)) = omega arith in
@@ -131,7 +131,7 @@ gathered-more {s} {at} {k} {n} {p} {j} {v} {next} g h m a =
           (prefixed-snoc (take j n) v (arguments (k - suc j) (lineWords (drop next s))));
     }
 
-pub gathered-stopped : {s : List ℕ} {at k : ℕ} {n : List ℕ} {p j : ℕ} → Gathered s at k n p j → j < k → Argued s p Missing →
+pub gathered-stopped : {s : List ℕ} {at k : ℕ} {n : List ℕ} {p j : ℕ} → ArgumentsRead s at k n p j → j < k → Argued s p Missing →
     none ≡ arguments k (lineWords (drop at s))
 unfolding argumentThen prefixed
 gathered-stopped {s} {at} {k} {n} {p} {j} g h a =
@@ -144,7 +144,7 @@ none-after [] = refl
 none-after (w ∷ ws) = refl
 
 -- behind the last number
-pub gathered-all : {s : List ℕ} {at k : ℕ} {n : List ℕ} {p j : ℕ} (t : Bool) → Gathered s at k n p j → k ≤ j →
+pub gathered-all : {s : List ℕ} {at k : ℕ} {n : List ℕ} {p j : ℕ} (t : Bool) → ArgumentsRead s at k n p j → k ≤ j →
     t ≡ onlyClosing (lineWords (drop p s)) → cond t (some (take k n)) none ≡ arguments k (lineWords (drop at s))
 gathered-all {s} {at} {k} {n} {p} {j} t g h c =
     let e : k - j ≡ 0 = omega arith in

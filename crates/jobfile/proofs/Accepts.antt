@@ -15,7 +15,7 @@ use Rattle.board.specs.declared.Net.{Net}
 use Rattle.board.specs.declared.Block.{Block}
 use Rattle.board.specs.Job.{Job}
 use Rattle.board.specs.Length.{lengthOf, shortest, needed}
-use Rattle.board.specs.Accepted.{Accepted, AcceptedNet}
+use Rattle.board.specs.Accepted.{AcceptedJob, AcceptedNet}
 use Rattle.text.specs.Bytes.{lines}
 use Rattle.jobfile.specs.declared.Form.{Form}
 use Rattle.jobfile.specs.declared.Form.the-variants as Is
@@ -27,21 +27,21 @@ use Rattle.lists.proofs.Joins.{Each-each, EachPair-join}
 use Rattle.jobfile.proofs.Tests.{read-cases, within-is, differ-is, net-range-is, block-range-is, free-is, length-is}
 
 -- what has been read is accepted
-abbrev Good : State → Type 0
-Good start = Unit {0}
-Good opened = Unit {0}
-Good (sized h) = (1 ≤ h) × (h ≤ 1024)
-Good (filled job) = Accepted job
-Good (closed job) = Accepted job
+abbrev AcceptedState : State → Type 0
+AcceptedState start = Unit {0}
+AcceptedState opened = Unit {0}
+AcceptedState (sized h) = (1 ≤ h) × (h ≤ 1024)
+AcceptedState (filled job) = AcceptedJob job
+AcceptedState (closed job) = AcceptedJob job
 
 -- every state that a line leads to is good
 abbrev Gives : Next → Type 0
-Gives x = (s : State) → x ≡ go s → Good s
+Gives x = (s : State) → x ≡ go s → AcceptedState s
 
 stop-gives : (o : Outcome) → Gives (stop o)
 stop-gives o s e = absurd (let z : _≡_ {A = ℕ} 0 1 = cc in omega arith)
 
-go-gives : (s : State) → Good s → Gives (go s)
+go-gives : (s : State) → AcceptedState s → Gives (go s)
 go-gives s g t e = let q : s ≡ t = cc in rw q at g
 
 unless-gives : (b : Bool) (o : Outcome) (x : Next) → (b ≡ true → Gives x) → Gives (unless b o x)
@@ -60,7 +60,7 @@ last-most k (n ∷ ns) r a =
     let h = last-most (n .number) ns (r .1) (Each-map ns (λ m l. omega (arith, l)) (r .0)) in
     (omega (arith, h .0, a .0), (h .0, h .1))
 
-module _ (k : ℕ) (job : Job) (n : Net) (a : Accepted job) where
+module _ (k : ℕ) (job : Job) (n : Net) (a : AcceptedJob job) where
   record Facts : Type 0 where
     ranges : netInRange (job .board) n ≡ true
     few : ltb (length (job .nets)) 512 ≡ true
@@ -81,7 +81,7 @@ module _ (k : ℕ) (job : Job) (n : Net) (a : Accepted job) where
         fits-board = leb-true _ _ (t .fits);
       }
 
-  net-accepted : Facts → Accepted (withNet job n)
+  net-accepted : Facts → AcceptedJob (withNet job n)
   net-accepted t =
       let m = last-most 0 (job .nets) (a .numbers-rise) (Each-each (job .nets) (λ x i. omega arith)) in
       let l = ltb-true (lastNumber 0 (job .nets)) (n .number) (t .above) in
@@ -124,8 +124,8 @@ module _ (k : ℕ) (job : Job) (n : Net) (a : Accepted job) where
         fits = search;
       })))))))))
 
-module _ (k : ℕ) (job : Job) (b : Block) (a : Accepted job) where
-  block-accepted : blockInRange (job .board) b ≡ true → ltb (length (job .blocks)) 256 ≡ true → Accepted (withBlock job b)
+module _ (k : ℕ) (job : Job) (b : Block) (a : AcceptedJob job) where
+  block-accepted : blockInRange (job .board) b ≡ true → ltb (length (job .blocks)) 256 ≡ true → AcceptedJob (withBlock job b)
   block-accepted h l =
       record {
         board-range = a .board-range;
@@ -146,7 +146,7 @@ module _ (k : ℕ) (job : Job) (b : Block) (a : Accepted job) where
   block-gives =
       unless-gives _ _ _ (λ e3. unless-gives _ _ _ (λ e4. go-gives (filled (withBlock job b)) (block-accepted (search) (search))))
 
-empty-accepted : (h k : ℕ) → (1 ≤ h) × (h ≤ 1024) → (1 ≤ k) × (k ≤ 128) → Accepted (emptyBoard (boardOf h k))
+empty-accepted : (h k : ℕ) → (1 ≤ h) × (h ≤ 1024) → (1 ≤ k) × (k ≤ 128) → AcceptedJob (emptyBoard (boardOf h k))
 empty-accepted h k a b =
     record {
       board-range = record { rows-range = a; tracks-range = b };
@@ -177,7 +177,7 @@ opened-gives k (sized h) x g = stop-gives (NotOfForm k)
 opened-gives k (filled j) x g = stop-gives (NotOfForm k)
 opened-gives k (closed j) x g = stop-gives (NotOfForm k)
 
-sized-gives : (k : ℕ) (s : State) (f : ℕ → Next) → Good s → ((h : ℕ) → Good (sized h) → Gives (f h)) → Gives (atSized k s f)
+sized-gives : (k : ℕ) (s : State) (f : ℕ → Next) → AcceptedState s → ((h : ℕ) → AcceptedState (sized h) → Gives (f h)) → Gives (atSized k s f)
 unfolding atSized
 sized-gives k start f a g = stop-gives (NotOfForm k)
 sized-gives k opened f a g = stop-gives (NotOfForm k)
@@ -185,7 +185,7 @@ sized-gives k (sized h) f a g = g h a
 sized-gives k (filled j) f a g = stop-gives (NotOfForm k)
 sized-gives k (closed j) f a g = stop-gives (NotOfForm k)
 
-filled-gives : (k : ℕ) (s : State) (f : Job → Next) → Good s → ((j : Job) → Accepted j → Gives (f j)) → Gives (atFilled k s f)
+filled-gives : (k : ℕ) (s : State) (f : Job → Next) → AcceptedState s → ((j : Job) → AcceptedJob j → Gives (f j)) → Gives (atFilled k s f)
 unfolding atFilled
 filled-gives k start f a g = stop-gives (NotOfForm k)
 filled-gives k opened f a g = stop-gives (NotOfForm k)
@@ -193,7 +193,7 @@ filled-gives k (sized h) f a g = stop-gives (NotOfForm k)
 filled-gives k (filled j) f a g = g j a
 filled-gives k (closed j) f a g = stop-gives (NotOfForm k)
 
-step-gives : (k : ℕ) (s : State) (x : Form) → Good s → Gives (step k s x)
+step-gives : (k : ℕ) (s : State) (x : Form) → AcceptedState s → Gives (step k s x)
 unfolding step
 step-gives k s Is.Blank g = go-gives s g
 step-gives k s Is.Board g = start-gives k s (go opened) (go-gives opened tt)
@@ -213,7 +213,7 @@ step-gives k s Is.Other g = stop-gives (NotOfForm k)
 pub not-refused : {P : Type 0} (o : Outcome) (j : Job) → refused o ≡ accepted j → P
 not-refused o j e = absurd (let z : _≡_ {A = ℕ} 0 1 = cc in omega arith)
 
-ended-accepted : (k : ℕ) (s : State) (j : Job) → Good s → ended k s ≡ accepted j → Accepted j
+ended-accepted : (k : ℕ) (s : State) (j : Job) → AcceptedState s → ended k s ≡ accepted j → AcceptedJob j
 unfolding ended
 ended-accepted k start j g e = not-refused (NotOfForm k) j e
 ended-accepted k opened j g e = not-refused (NotOfForm k) j e
@@ -221,21 +221,21 @@ ended-accepted k (sized h) j g e = not-refused (NotOfForm k) j e
 ended-accepted k (filled i) j g e = not-refused (NotOfForm k) j e
 ended-accepted k (closed i) j g e = let q : i ≡ j = cc in rw q at g
 
-follow-accepted : (x : Next) (f : State → Read) (j : Job) → ((s : State) → x ≡ go s → f s ≡ accepted j → Accepted j) →
-    follow x f ≡ accepted j → Accepted j
+follow-accepted : (x : Next) (f : State → Read) (j : Job) → ((s : State) → x ≡ go s → f s ≡ accepted j → AcceptedJob j) →
+    follow x f ≡ accepted j → AcceptedJob j
 unfolding follow
 follow-accepted (go s) f j g e = g s refl e
 follow-accepted (stop o) f j g e = not-refused o j e
 
-from-accepted : (k : ℕ) (s : State) (ls : List (List ℕ)) (j : Job) → Good s → readFrom k s ls ≡ accepted j → Accepted j
+from-accepted : (k : ℕ) (s : State) (ls : List (List ℕ)) (j : Job) → AcceptedState s → readFrom k s ls ≡ accepted j → AcceptedJob j
 unfolding readFrom
 from-accepted k s [] j g e = ended-accepted k s j g e
 from-accepted k s (l ∷ ls) j g e =
     follow-accepted (step k s (readForm l)) (λ t. readFrom _ t ls) j
     (λ t h. from-accepted _ t ls j (step-gives k s (readForm l) g t h)) e
 
-pub read-accepted : (text : List ℕ) (job : Job) → readJob text ≡ accepted job → Accepted job
+pub read-accepted : (text : List ℕ) (job : Job) → readJob text ≡ accepted job → AcceptedJob job
 read-accepted text job =
-    read-cases text (λ r. r ≡ accepted job → Accepted job)
+    read-cases text (λ r. r ≡ accepted job → AcceptedJob job)
     (λ h. from-accepted 1 start (lines text) job tt)
     (λ h. not-refused TooLong job)

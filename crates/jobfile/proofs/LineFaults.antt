@@ -45,38 +45,38 @@ judged-same F H G (go s) f h j = (j .0, λ o p. j .1 o (h o p))
 judged-same F H G (stop o) f h j = record { fault = f o (j .fault); least = λ p q. j .least p (h p q) }
 
 -- a test of a line, and what the text is refused for where it fails
-record Test : Type 0 where
+record LineTest : Type 0 where
   passed : Bool
   otherwise : Outcome
 
-abbrev test : Bool → Outcome → Test
+abbrev test : Bool → Outcome → LineTest
 test passed o = record { passed = passed; otherwise = o }
 
 -- one test after another
-abbrev tested : List Test → Next → Next
+abbrev tested : List LineTest → Next → Next
 tested [] x = x
 tested (t ∷ ts) x = unless (t .passed) (t .otherwise) (tested ts x)
 
 -- the tests stand in the order of the document's numbers
-abbrev Rising : List Test → Type 0
+abbrev Rising : List LineTest → Type 0
 Rising ts = EachPair (λ s t. numberOf (s .otherwise) < numberOf (t .otherwise)) ts
 
 -- a test fails exactly where the line has the fault that it stands for
-record Stands (F : Outcome → Type 0) (t : Test) : Type 0 where
+record StandsFor (F : Outcome → Type 0) (t : LineTest) : Type 0 where
   fails : t .passed ≡ false → F (t .otherwise)
   passes : t .passed ≡ true → F (t .otherwise) → ⊥
 
 -- so does each, where those before it have passed
-abbrev Standing : (Outcome → Type 0) → List Test → Type 0
+abbrev Standing : (Outcome → Type 0) → List LineTest → Type 0
 Standing F [] = Unit {0}
-Standing F (t ∷ ts) = Stands F t × (t .passed ≡ true → Standing F ts)
+Standing F (t ∷ ts) = StandsFor F t × (t .passed ≡ true → Standing F ts)
 
 -- what the tests stand for
-abbrev outcomes : List Test → List Outcome
+abbrev outcomes : List LineTest → List Outcome
 outcomes ts = map (λ t. t .otherwise) ts
 
 -- where they rise, a fault of a later test has a larger number
-later-number : (t : Test) (ts : List Test) (p : Outcome) → Each (λ u. numberOf (t .otherwise) < numberOf (u .otherwise)) ts →
+later-number : (t : LineTest) (ts : List LineTest) (p : Outcome) → Each (λ u. numberOf (t .otherwise) < numberOf (u .otherwise)) ts →
     List·Memᴰ p (outcomes ts) → numberOf (t .otherwise) ≤ numberOf p
 later-number t [] p a m = absurd (List·Memᴰ·not-nil m)
 later-number t (u ∷ ts) p a m =
@@ -87,7 +87,7 @@ later-number t (u ∷ ts) p a m =
 
 module _ (F : Outcome → Type 0) (G : State → Type 0) (s : State) (good : G s) where
   -- tests that rise and stand for all the faults of a line
-  tested-judged : (ts : List Test) → Rising ts → Standing F ts → ((o : Outcome) → F o → List·Memᴰ o (outcomes ts)) →
+  tested-judged : (ts : List LineTest) → Rising ts → Standing F ts → ((o : Outcome) → F o → List·Memᴰ o (outcomes ts)) →
       Judged F G (tested ts (go s))
   unfolding unless
   tested-judged [] r a c = (good, λ o f. List·Memᴰ·not-nil (c o f))
@@ -163,7 +163,7 @@ module _ (job : Job) (n : Net) (k : ℕ) where
   rows-of (too-few-rows x) = x
 
   -- refusals 3 to 9, in this order
-  abbrev netTests : List Test
+  abbrev netTests : List LineTest
   netTests =
       test (netInRange (job .board) n) (OutOfRange k) ∷
       test (ltb (length (job .nets)) 512) (TooMany k) ∷
@@ -245,7 +245,7 @@ module _ (job : Job) (b : Block) (k : ℕ) where
   block-count-of (block-count x) = x
 
   -- refusals 3 and 4, in this order
-  abbrev blockTests : List Test
+  abbrev blockTests : List LineTest
   blockTests = test (blockInRange (job .board) b) (OutOfRange k) ∷ test (ltb (length (job .blocks)) 256) (TooMany k) ∷ []
 
   block-tested : addBlock k b job ≡ tested blockTests (go (filled (withBlock job b)))
@@ -279,12 +279,12 @@ module _ (job : Job) (b : Block) (k : ℕ) where
 -- ---- what the lines above hold
 
 -- the lines that lead to a state
-abbrev pub Reached : State → List Form → Type 0
-Reached start fs = (nonBlank fs ≡ []) × (jobIn fs ≡ noJob)
-Reached opened fs = (nonBlank fs ≡ Is.Board ∷ []) × (jobIn fs ≡ noJob)
-Reached (sized h) fs = (nonBlank fs ≡ Is.Board ∷ Is.Rows h ∷ []) × (jobIn fs ≡ emptyBoard (boardOf h 0))
-Reached (filled job) fs = Ordered [] fs × (jobIn fs ≡ job)
-Reached (closed job) fs = Ordered (Is.Close ∷ []) fs × (jobIn fs ≡ job)
+abbrev pub LinesReach : State → List Form → Type 0
+LinesReach start fs = (nonBlank fs ≡ []) × (jobIn fs ≡ noJob)
+LinesReach opened fs = (nonBlank fs ≡ Is.Board ∷ []) × (jobIn fs ≡ noJob)
+LinesReach (sized h) fs = (nonBlank fs ≡ Is.Board ∷ Is.Rows h ∷ []) × (jobIn fs ≡ emptyBoard (boardOf h 0))
+LinesReach (filled job) fs = Ordered [] fs × (jobIn fs ≡ job)
+LinesReach (closed job) fs = Ordered (Is.Close ∷ []) fs × (jobIn fs ≡ job)
 
 -- one line more
 job-more : (job : Job) (fs : List Form) (f : Form) → jobFrom job (fs ++ (f ∷ [])) ≡ withForm (jobFrom job fs) f
@@ -337,7 +337,7 @@ ordered-blank last fs a =
     }
 
 -- a blank line changes nothing
-reached-blank : (s : State) (fs : List Form) → Reached s fs → Reached s (fs ++ (Is.Blank ∷ []))
+reached-blank : (s : State) (fs : List Form) → LinesReach s fs → LinesReach s (fs ++ (Is.Blank ∷ []))
 unfolding withForm
 reached-blank start fs r = (lines-blank fs ∙ r .0, job-more noJob fs Is.Blank ∙ r .1)
 reached-blank opened fs r = (lines-blank fs ∙ r .0, job-more noJob fs Is.Blank ∙ r .1)
@@ -370,14 +370,14 @@ fault-at above k f o (of-block {t = t} {a = a} {b = b} x) =
 
 module _ (above : List Form) (k : ℕ) where
   -- what line k of form f leads to is right
-  abbrev pub Line : Form → Next → Type 0
-  Line f x = Judged (LineFault above k f) (λ s. Reached s (above ++ (f ∷ []))) x
+  abbrev pub LineJudged : Form → Next → Type 0
+  LineJudged f x = Judged (LineFault above k f) (λ s. LinesReach s (above ++ (f ∷ []))) x
 
   -- a form in a wrong place
-  wrong : (f : Form) → (MayFollow above f → ⊥) → Line f (stop (NotOfForm k))
+  wrong : (f : Form) → (MayFollow above f → ⊥) → LineJudged f (stop (NotOfForm k))
   wrong f deny = record { fault = not-of-form deny; least = λ p q. fault-at above k f p q .1 }
 
-  at-start : (s : State) (x : Next) → Reached s above → (Reached start above → Line Is.Board x) → Line Is.Board (atStart k s x)
+  at-start : (s : State) (x : Next) → LinesReach s above → (LinesReach start above → LineJudged Is.Board x) → LineJudged Is.Board (atStart k s x)
   unfolding atStart
   at-start start x r g = g r
   at-start opened x r g = wrong Is.Board (λ m. omega (arith, ap length m, ap length (r .0)))
@@ -385,8 +385,8 @@ module _ (above : List Form) (k : ℕ) where
   at-start (filled j) x r g = wrong Is.Board (λ m. omega (arith, ap length m, ap length (r .0 .lines-are)))
   at-start (closed j) x r g = wrong Is.Board (λ m. omega (arith, ap length m, ap length (r .0 .lines-are)))
 
-  at-opened : (i : ℕ) (s : State) (x : Next) → Reached s above → (Reached opened above → Line (Is.Rows i) x) →
-      Line (Is.Rows i) (atOpened k s x)
+  at-opened : (i : ℕ) (s : State) (x : Next) → LinesReach s above → (LinesReach opened above → LineJudged (Is.Rows i) x) →
+      LineJudged (Is.Rows i) (atOpened k s x)
   unfolding atOpened
   at-opened i start x r g = wrong (Is.Rows i) (λ m. omega (arith, ap length m, ap length (r .0)))
   at-opened i opened x r g = g r
@@ -394,8 +394,8 @@ module _ (above : List Form) (k : ℕ) where
   at-opened i (filled j) x r g = wrong (Is.Rows i) (λ m. omega (arith, ap length m, ap length (r .0 .lines-are)))
   at-opened i (closed j) x r g = wrong (Is.Rows i) (λ m. omega (arith, ap length m, ap length (r .0 .lines-are)))
 
-  at-sized : (t : ℕ) (s : State) (f : ℕ → Next) → Reached s above →
-      ((h : ℕ) → Reached (sized h) above → Line (Is.Tracks t) (f h)) → Line (Is.Tracks t) (atSized k s f)
+  at-sized : (t : ℕ) (s : State) (f : ℕ → Next) → LinesReach s above →
+      ((h : ℕ) → LinesReach (sized h) above → LineJudged (Is.Tracks t) (f h)) → LineJudged (Is.Tracks t) (atSized k s f)
   unfolding atSized
   at-sized t start f r g = wrong (Is.Tracks t) (λ m. omega (arith, ap length (m .1), ap length (r .0)))
   at-sized t opened f r g = wrong (Is.Tracks t) (λ m. omega (arith, ap length (m .1), ap length (r .0)))
@@ -403,8 +403,8 @@ module _ (above : List Form) (k : ℕ) where
   at-sized t (filled j) f r g = wrong (Is.Tracks t) (λ m. omega (arith, ap length (m .1), ap length (r .0 .lines-are)))
   at-sized t (closed j) f r g = wrong (Is.Tracks t) (λ m. omega (arith, ap length (m .1), ap length (r .0 .lines-are)))
 
-  at-filled : (x : Form) (s : State) (f : Job → Next) → (MayFollow above x → Ordered [] above) → Reached s above →
-      ((job : Job) → Reached (filled job) above → Line x (f job)) → Line x (atFilled k s f)
+  at-filled : (x : Form) (s : State) (f : Job → Next) → (MayFollow above x → Ordered [] above) → LinesReach s above →
+      ((job : Job) → LinesReach (filled job) above → LineJudged x (f job)) → LineJudged x (atFilled k s f)
   unfolding atFilled
   at-filled x start f to r g = wrong x (λ m. omega (arith, ap length (to m .lines-are), ap length (r .0)))
   at-filled x opened f to r g = wrong x (λ m. omega (arith, ap length (to m .lines-are), ap length (r .0)))
@@ -416,20 +416,20 @@ module _ (above : List Form) (k : ℕ) where
   no-blank : (o : Outcome) → LineFault above k Is.Blank o → ⊥
   no-blank o (not-of-form x) = x tt
 
-  no-board : Reached start above → (o : Outcome) → LineFault above k Is.Board o → ⊥
+  no-board : LinesReach start above → (o : Outcome) → LineFault above k Is.Board o → ⊥
   no-board r o (not-of-form x) = x (r .0)
 
   rows-of-line : {h : ℕ} → LineFault above k (Is.Rows h) (OutOfRange k) → (1 ≤ h) × (h ≤ 1024) → ⊥
   rows-of-line (rows-range x) = x
 
-  rows-only : (h : ℕ) → Reached opened above → (o : Outcome) → LineFault above k (Is.Rows h) o → List·Memᴰ o (OutOfRange k ∷ [])
+  rows-only : (h : ℕ) → LinesReach opened above → (o : Outcome) → LineFault above k (Is.Rows h) o → List·Memᴰ o (OutOfRange k ∷ [])
   rows-only h r o (not-of-form x) = absurd (x (r .0))
   rows-only h r o (rows-range x) = List·Memᴰ·head refl
 
   tracks-of-line : {t : ℕ} → LineFault above k (Is.Tracks t) (OutOfRange k) → (1 ≤ t) × (t ≤ 128) → ⊥
   tracks-of-line (tracks-range x) = x
 
-  tracks-only : (t h : ℕ) → Reached (sized h) above → (o : Outcome) → LineFault above k (Is.Tracks t) o →
+  tracks-only : (t h : ℕ) → LinesReach (sized h) above → (o : Outcome) → LineFault above k (Is.Tracks t) o →
       List·Memᴰ o (OutOfRange k ∷ [])
   tracks-only t h r o (not-of-form x) = absurd (x (h, r .0))
   tracks-only t h r o (tracks-range x) = List·Memᴰ·head refl
@@ -448,61 +448,61 @@ module _ (above : List Form) (k : ℕ) where
   no-close-fault a o (not-of-form x) = x a
 
   -- the forms in their places
-  board-line : Reached start above → Line Is.Board (go opened)
+  board-line : LinesReach start above → LineJudged Is.Board (go opened)
   unfolding withForm
   board-line r = ((lines-more above Is.Board refl ∙ (rw (r .0)), job-more noJob above Is.Board ∙ r .1), no-board r)
 
-  rows-line : (h : ℕ) → Reached opened above → Line (Is.Rows h) (unless (within 1 1024 h) (OutOfRange k) (go (sized h)))
+  rows-line : (h : ℕ) → LinesReach opened above → LineJudged (Is.Rows h) (unless (within 1 1024 h) (OutOfRange k) (go (sized h)))
   unfolding withForm
   rows-line h r =
-      tested-judged (LineFault above k (Is.Rows h)) (λ s. Reached s (above ++ (Is.Rows h ∷ []))) (sized h)
+      tested-judged (LineFault above k (Is.Rows h)) (λ s. LinesReach s (above ++ (Is.Rows h ∷ []))) (sized h)
       (lines-more above (Is.Rows h) refl ∙ (rw (r .0)), job-more noJob above (Is.Rows h) ∙ (rw (r .1)))
       (test (within 1 1024 h) (OutOfRange k) ∷ []) (tt, tt)
       (record { fails = λ e. rows-range (denied _ (within-is 1 1024 h) e); passes = λ e f. rows-of-line f (within-is 1 1024 h .0 e) }, λ e. tt)
       (rows-only h r)
 
-  tracks-line : (t h : ℕ) → Reached (sized h) above →
-      Line (Is.Tracks t) (unless (within 1 128 t) (OutOfRange k) (go (filled (emptyBoard (boardOf h t)))))
+  tracks-line : (t h : ℕ) → LinesReach (sized h) above →
+      LineJudged (Is.Tracks t) (unless (within 1 128 t) (OutOfRange k) (go (filled (emptyBoard (boardOf h t)))))
   unfolding withForm
   tracks-line t h r =
       let f = Is.Tracks t in
       let a : Ordered [] (above ++ (f ∷ [])) =
       record { rows = h; tracks = t; items = []; lines-are = lines-more above f refl ∙ (rw (r .0)); items-are = tt } in
-      tested-judged (LineFault above k f) (λ s. Reached s (above ++ (f ∷ []))) (filled (emptyBoard (boardOf h t)))
+      tested-judged (LineFault above k f) (λ s. LinesReach s (above ++ (f ∷ []))) (filled (emptyBoard (boardOf h t)))
       (a, job-more noJob above f ∙ (rw (r .1)))
       (test (within 1 128 t) (OutOfRange k) ∷ []) (tt, tt)
       (record { fails = λ e. tracks-range (denied _ (within-is 1 128 t) e); passes = λ e f. tracks-of-line f (within-is 1 128 t .0 e) }, λ e. tt)
       (tracks-only t h r)
 
-  net-line-judged : (i l r lo hi : ℕ) (job : Job) → Reached (filled job) above →
-      Line (Is.Net i l r lo hi) (addNet k (netOf i l r lo hi) job)
+  net-line-judged : (i l r lo hi : ℕ) (job : Job) → LinesReach (filled job) above →
+      LineJudged (Is.Net i l r lo hi) (addNet k (netOf i l r lo hi) job)
   unfolding withForm
   net-line-judged i l r lo hi job a =
       let n = netOf i l r lo hi in
       let f = Is.Net i l r lo hi in
-      let G : State → Type 0 = λ s. Reached s (above ++ (f ∷ [])) in
-      subst (λ j. Line (Is.Net i l r lo hi) (addNet k (netOf i l r lo hi) j)) (a .1)
+      let G : State → Type 0 = λ s. LinesReach s (above ++ (f ∷ [])) in
+      subst (λ j. LineJudged (Is.Net i l r lo hi) (addNet k (netOf i l r lo hi) j)) (a .1)
       (judged-same (NetFault (jobIn above) n k) (LineFault above k f) G (addNet k n (jobIn above))
       (λ o x. of-net x) (net-only i l r lo hi (a .0))
       (net-judged (jobIn above) n k G (ordered-item above f refl net (a .0), job-more noJob above f)))
 
-  block-line-judged : (t a b : ℕ) (job : Job) → Reached (filled job) above →
-      Line (Is.Block t a b) (addBlock k (blockOf t a b) job)
+  block-line-judged : (t a b : ℕ) (job : Job) → LinesReach (filled job) above →
+      LineJudged (Is.Block t a b) (addBlock k (blockOf t a b) job)
   unfolding withForm
   block-line-judged t a b job q =
       let x = blockOf t a b in
       let f = Is.Block t a b in
-      let G : State → Type 0 = λ s. Reached s (above ++ (f ∷ [])) in
-      subst (λ j. Line (Is.Block t a b) (addBlock k (blockOf t a b) j)) (q .1)
+      let G : State → Type 0 = λ s. LinesReach s (above ++ (f ∷ [])) in
+      subst (λ j. LineJudged (Is.Block t a b) (addBlock k (blockOf t a b) j)) (q .1)
       (judged-same (BlockFault (jobIn above) x k) (LineFault above k f) G (addBlock k x (jobIn above))
       (λ o x. of-block x) (block-only t a b (q .0))
       (block-judged (jobIn above) x k G (ordered-item above f refl block (q .0), job-more noJob above f)))
 
-  close-line : (job : Job) → Reached (filled job) above → Line Is.Close (go (closed job))
+  close-line : (job : Job) → LinesReach (filled job) above → LineJudged Is.Close (go (closed job))
   unfolding withForm
   close-line job r = ((ordered-close above (r .0), job-more noJob above Is.Close ∙ r .1), no-close-fault (r .0))
 
-  pub step-judged : (s : State) (f : Form) → Reached s above → Line f (step k s f)
+  pub step-judged : (s : State) (f : Form) → LinesReach s above → LineJudged f (step k s f)
   unfolding step
   step-judged s Is.Blank r = (reached-blank s above r, no-blank)
   step-judged s Is.Board r = at-start s (go opened) r board-line

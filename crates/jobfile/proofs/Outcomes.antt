@@ -9,14 +9,14 @@ use Rattle.jobfile.specs.declared.Outcome.the-variants.{Accepted, TooLon
 use Rattle.jobfile.specs.Answers.{numberOf, lineOf}
 
 -- the outcome of a number and a line
-abbrev outcomeOf : ℕ → ℕ → Outcome
-outcomeOf i k =
+abbrev byNumber : ℕ → ℕ → Outcome
+byNumber i k =
     getD
     (Accepted ∷ TooLong ∷ NotOfForm k ∷ OutOfRange k ∷ TooMany k ∷ NumberNotAbove k ∷ PinUsed k ∷ SameRow k ∷ NoLength k ∷
     TooFewRows k ∷ [])
     i Accepted
 
-outcome-of : (o : Outcome) → outcomeOf (numberOf o) (lineOf o) ≡ o
+outcome-of : (o : Outcome) → byNumber (numberOf o) (lineOf o) ≡ o
 outcome-of Accepted = refl
 outcome-of TooLong = refl
 outcome-of (NotOfForm k) = refl

@@ -17,7 +17,7 @@ use Rattle.jobfile.specs.Answers.{numberOf, lineOf}
 use Rattle.jobfile.specs.Faults.{formsOf, jobFrom, jobIn, nonBlank, Ordered, LineFault, Fault, too-long, on-line, ends-early, FirstFault}
 use Rattle.jobfile.proofs.Tests.{read-cases}
 use Rattle.jobfile.proofs.Outcomes.{same-outcome}
-use Rattle.jobfile.proofs.LineFaults.{Reached, not-both, fault-at, Line, step-judged}
+use Rattle.jobfile.proofs.LineFaults.{LinesReach, not-both, fault-at, LineJudged, step-judged}
 
 -- ---- faults below some lines
 
@@ -83,7 +83,7 @@ right-early above x =
       first-number = λ p q e. omega (arith, ap numberOf (in-nil above p q .0));
     }
 
-ended-right : (above : List Form) (s : State) → Reached s above → Right above [] (ended (suc (length above)) s)
+ended-right : (above : List Form) (s : State) → LinesReach s above → Right above [] (ended (suc (length above)) s)
 unfolding ended
 ended-right above start r = right-early above (λ a. omega (arith, ap length (a .lines-are), ap length (r .0)))
 ended-right above opened r = right-early above (λ a. omega (arith, ap length (a .lines-are), ap length (r .0)))
@@ -106,8 +106,8 @@ module _ (above fs : List Form) (f : Form) where
         first-number = λ p q e. ⊎-elim (λ x. absurd (none p x)) (λ x. r .first-number p x e) (in-cons above fs f p q);
       }
 
-  follow-right : (x : Next) (g : State → Read) → Line above (suc (length above)) f x →
-      ((t : State) → Reached t (above ++ (f ∷ [])) → Right (above ++ (f ∷ [])) fs (g t)) → Right above (f ∷ fs) (follow x g)
+  follow-right : (x : Next) (g : State → Read) → LineJudged above (suc (length above)) f x →
+      ((t : State) → LinesReach t (above ++ (f ∷ [])) → Right (above ++ (f ∷ [])) fs (g t)) → Right above (f ∷ fs) (follow x g)
   unfolding follow
   follow-right (go t) g j h = right-later (g t) (j .1) (h t (j .0))
   follow-right (stop o) g j h =
@@ -121,7 +121,7 @@ module _ (above fs : List Form) (f : Form) where
             (in-cons above fs f p q);
       }
 
-from-right : (above : List Form) (s : State) (ls : List (List ℕ)) → Reached s above →
+from-right : (above : List Form) (s : State) (ls : List (List ℕ)) → LinesReach s above →
     Right above (map readForm ls) (readFrom (suc (length above)) s ls)
 unfolding readFrom
 from-right above s [] r = ended-right above s r

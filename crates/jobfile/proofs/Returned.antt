@@ -4,7 +4,7 @@ use Prim.Native.Nat.{ℕ}
 use mathlib.Core.Path.{_≡_, refl, sym, ap}
 use mathlib.Core.List.{List}
 use native.Mathlib.Omega.{arith}
-use Rattle.board.specs.Accepted.{Accepted}
+use Rattle.board.specs.Accepted.{AcceptedJob}
 use Rattle.board.specs.Stored.{jobOf}
 use Rattle.jobfile.specs.declared.Answer.{Answer}
 use Rattle.jobfile.specs.declared.Outcome.{Outcome}
@@ -32,7 +32,7 @@ module _ (text : List ℕ) where
       by (accepted job) e q = ap accepted (sym (job-back job))
       by (refused o) e q = absurd (refused-number o e q)
 
-  pub returned-accepted : answer .outcome ≡ Is.Accepted → Accepted (jobOf (answer .job))
+  pub returned-accepted : answer .outcome ≡ Is.Accepted → AcceptedJob (jobOf (answer .job))
   returned-accepted q = read-accepted text (jobOf (answer .job)) (returned-job q)
 
   pub returned-refused : (answer .outcome ≡ Is.Accepted → ⊥) → readJob text ≡ refused (answer .outcome)

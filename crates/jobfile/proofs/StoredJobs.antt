@@ -9,7 +9,7 @@ use lib.Seq.{set-at}
 use Rattle.board.specs.declared.Net.{Net}
 use Rattle.board.specs.declared.Block.{Block}
 use Rattle.board.specs.Job.{Job}
-use Rattle.board.specs.Accepted.{Accepted}
+use Rattle.board.specs.Accepted.{AcceptedJob}
 use Rattle.jobfile.specs.Read.{withNet, withBlock}
 use Rattle.board.specs.Stored.{storedOf, noNet, noBlock}
 
@@ -31,11 +31,11 @@ module _ {A : Type 0} (most : ℕ) (xs : List A) (none : A) where
       rw (e, g) (set-at xs none (replicate r none) x (length xs) refl ∙ sym (append-assoc xs (x ∷ []) (replicate r none)))
 
 -- the arrays are full
-pub stored-nets : (job : Job) → Accepted job → length (storedOf job .nets) ≡ 512
+pub stored-nets : (job : Job) → AcceptedJob job → length (storedOf job .nets) ≡ 512
 unfolding storedOf
 stored-nets job a = filled-length 512 (job .nets) noNet (a .nets-count)
 
-pub stored-blocks : (job : Job) → Accepted job → length (storedOf job .blocks) ≡ 256
+pub stored-blocks : (job : Job) → AcceptedJob job → length (storedOf job .blocks) ≡ 256
 unfolding storedOf
 stored-blocks job a = filled-length 256 (job .blocks) noBlock (a .blocks-count)
 

@@ -1,6 +1,5 @@
 -- What small texts are read as, those of the readings of document 01 among them, and its worked board. Assumes nothing.
 use Prim.Native.Nat.{ℕ, zero, suc, _+_, _≤_}
-use Prim.Native.Char.{code}
 use Prim.Native.String as S
 use mathlib.Core.Path.{_≡_, refl, ap, _∙_}
 use mathlib.Core.List.{List, [], _∷_}
@@ -10,21 +9,16 @@ use Rattle.lists.specs.Lists.{allOf}
 use Rattle.board.specs.Job.{Job}
 use Rattle.board.proofs.WorkedBoard.{workedJob}
 use Rattle.board.specs.Length.{width, upper, lower, span, plainLength, shortest, needed}
-use Rattle.text.specs.Bytes.{lines, same, joined, pieces, nonEmpty}
+use Rattle.text.specs.Bytes.{bytes, lines, same, joined, pieces, nonEmpty}
 use Rattle.text.specs.Digits.{valueFrom, number}
 use Rattle.keywords.specs.Keywords.{findFrom, findWord}
 use Rattle.lines.specs.Tokens.{spaced, lineWords}
 use Rattle.jobfile.specs.declared.Outcome.the-variants.{NotOfForm, OutOfRange, TooMany, NumberNotAbove, PinUsed, SameRow, NoLength, TooFewRows}
 use Rattle.jobfile.specs.Forms.{noWord, ifLast, consNumber, arguments, formFrom, formAfter, formOpened, formOf, readForm}
 use Rattle.jobfile.specs.Read.{start, stop, unless, atStart, atOpened, atSized, atFilled, within, netOf, blockOf, boardOf, emptyBoard, netInRange, blockInRange, lastNumber, pinsFree, addNet, addBlock, step, Read, accepted, refused, ended, follow, readFrom, readJob}
-use Rattle.board.specs.Accepted.{Accepted}
+use Rattle.board.specs.Accepted.{AcceptedJob}
 use Rattle.jobfile.proofs.Accepts.{read-accepted}
 use Rattle.jobfile.proofs.Tests.{read-cases}
-
--- the bytes of a text of ASCII characters
-abbrev pub bytes : S.String → List ℕ
-bytes S.[] = []
-bytes (S._∷_ c s) = code c ∷ bytes s
 
 -- what a text is read as
 unfoldable pub readAs : S.String → Read
@@ -132,7 +126,7 @@ unfolding readAs
 worked-board = refl
 
 -- so there are accepted jobs: what is shown of them is not empty
-pub worked-accepted : Accepted workedJob
+pub worked-accepted : AcceptedJob workedJob
 unfolding readAs
 worked-accepted = read-accepted (bytes workedText) workedJob worked-board
 

@@ -1,5 +1,5 @@
 -- The rules of the tables of words: each row is its word and padding, each length is its word's. A proof about a table cites them, and
--- the checker computes `map padded` and `map length` over all the words to compare them with the source's table. Assumes nothing.
+-- the checker computes `map paddedWord` and `map length` over all the words to compare them with the source's table. Assumes nothing.
 use mathlib.Core.Path.{_≡_, refl}
 use mathlib.Core.Bool.{true}
 use mathlib.Core.List.{List, [], _∷_, _++_, map}
@@ -15,15 +15,15 @@ use Rattle.keywords.specs.declared.Vocabulary.{Vocabulary}
 use Rattle.keywords.specs.declared.Vocabulary.the-variants.{Job, Layout}
 
 -- a word as its table holds it: padded with 0 to eight bytes
-abbrev pub padded : List ℕ → List ℕ
-padded w = w ++ replicate (8 - length w) 0
+abbrev pub paddedWord : List ℕ → List ℕ
+paddedWord w = w ++ replicate (8 - length w) 0
 
-row-byte : (ws : List (List ℕ)) (i j : ℕ) → i < length ws → j < length (getD ws i []) → getD (getD (map padded ws) i []) j 0 ≡ getD (getD ws i []) j 0
+row-byte : (ws : List (List ℕ)) (i j : ℕ) → i < length ws → j < length (getD ws i []) → getD (getD (map paddedWord ws) i []) j 0 ≡ getD (getD ws i []) j 0
 row-byte [] i j h k = absurd (omega arith)
 row-byte (w ∷ ws) zero j h k = List·getD-append w (replicate (8 - length w) 0) 0 j k
 row-byte (w ∷ ws) (suc i) j h k = row-byte ws i j (omega arith) k
 
-pub byte-of : (v : Vocabulary) (i j : ℕ) → i < length (words v) → j < length (wordOf v i) → getD (getD (map padded (words v)) i []) j 0 ≡ getD (wordOf v i) j 0
+pub byte-of : (v : Vocabulary) (i j : ℕ) → i < length (words v) → j < length (wordOf v i) → getD (getD (map paddedWord (words v)) i []) j 0 ≡ getD (wordOf v i) j 0
 unfolding wordOf
 byte-of v i j h k = row-byte (words v) i j h k
 

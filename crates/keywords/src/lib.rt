@@ -1,4 +1,4 @@
-// The words of the two formats, held in tables of padded bytes and looked up by index when reading and when writing.
+// The words of the two formats, held in tables of paddedWord bytes and looked up by index when reading and when writing.
 ghost use mathlib.Core.Path.{_≡_};
 ghost use Prim.Native.Nat.{_+_, _≤_, _<_};
 ghost use lib.ListN.{length, getD};
@@ -12,7 +12,7 @@ pub enum Vocabulary {
     Layout,
 }
 
-// The five words that open a form of a job, each padded with 0 to eight bytes, and their lengths without the padding.
+// The five words that open a form of a job, each paddedWord with 0 to eight bytes, and their lengths without the padding.
 const JOB_WORDS: [[u8; 8]; 5] = [
     *b"board\0\0\0",
     *b"rows\0\0\0\0",

@@ -134,16 +134,16 @@ unfolding lineWords spaced pieces nonEmpty joined
 shut-first t = refl
 
 -- what a token at `at` says of its places: they lie behind `at` and within the line; a word is no bracket
-abbrev pub Placed : List ℕ → ℕ → Token → Type 0
-Placed s at Nothing = Unit {0}
-Placed s at (Open next) = (at < next) × (next ≤ length s)
-Placed s at (Shut next) = (at < next) × (next ≤ length s)
-Placed s at (Word from to) = (at ≤ from) × (from < to) × (to ≤ length s) × (isBracket (getD s from 0) ≡ false)
+abbrev pub TokenPlaced : List ℕ → ℕ → Token → Type 0
+TokenPlaced s at Nothing = Unit {0}
+TokenPlaced s at (Open next) = (at < next) × (next ≤ length s)
+TokenPlaced s at (Shut next) = (at < next) × (next ≤ length s)
+TokenPlaced s at (Word from to) = (at ≤ from) × (from < to) × (to ≤ length s) × (isBracket (getD s from 0) ≡ false)
 
 -- the words from a place on are the token there and those behind it
 pub record Tokened (s : List ℕ) (at : ℕ) (r : Token) : Type 0 where
   pub words : lineWords (drop at s) ≡ tokenWords s r
-  pub placed : Placed s at r
+  pub placed : TokenPlaced s at r
 
 end-token : (s : List ℕ) (i : ℕ) → length s ≤ i → Tokened s i (tokenOn s i)
 unfolding lineWords spaced pieces nonEmpty tokenWords
@@ -183,7 +183,7 @@ on-token s i ink =
     ]
 
 -- the places of a token at a later byte lie behind an earlier one too
-placed-before : (s : List ℕ) (at i : ℕ) (r : Token) → at ≤ i → Placed s i r → Placed s at r
+placed-before : (s : List ℕ) (at i : ℕ) (r : Token) → at ≤ i → TokenPlaced s i r → TokenPlaced s at r
 placed-before s at i Nothing h p = tt
 placed-before s at i (Open next) h p = (omega arith, p .1)
 placed-before s at i (Shut next) h p = (omega arith, p .1)

@@ -18,16 +18,16 @@ use Rattle.packing.specs.Best.{sumWith, bestAt, table, bestLast}
 use Rattle.packing.specs.Walk.{reaches, choice}
 use Rattle.packing.proofs.UpperBound.{bestAt-rest, bestLast-suc}
 
-pub record Pick : Type 0 where
+pub record PassPick : Type 0 where
   pub sum : ℕ
   pub net : Option Net
 
 module _ (job : Job) (earlier : List ℕ) (t : ℕ) where
   -- the nets still to be looked at, and the pick so far
-  unfoldable pub scan : ℕ → List ℕ → List Net → Pick → Pick
-  scan j below [] p = p
-  scan j below (n ∷ ns) p =
-      scan j below ns (cond (fitsAt job earlier t n j && ltb (p .sum) (sumWith (job .board) below n)) (record { sum = sumWith (job .board) below n; net = some n }) p)
+  unfoldable pub onePass : ℕ → List ℕ → List Net → PassPick → PassPick
+  onePass j below [] p = p
+  onePass j below (n ∷ ns) p =
+      onePass j below ns (cond (fitsAt job earlier t n j && ltb (p .sum) (sumWith (job .board) below n)) (record { sum = sumWith (job .board) below n; net = some n }) p)
 
   module _ (j : ℕ) (below : List ℕ) where
     abbrev pub fits : Net → Bool
@@ -36,27 +36,27 @@ module _ (job : Job) (earlier : List ℕ) (t : ℕ) where
     abbrev pub S : Net → ℕ
     S n = sumWith (job .board) below n
 
-    abbrev pub Scan : List Net → Pick → Pick
-    Scan ns p = scan j below ns p
+    abbrev pub Pass : List Net → PassPick → PassPick
+    Pass ns p = onePass j below ns p
 
     abbrev At : List Net → ℕ
     At ns = bestAt job earlier t j below ns
 
-    abbrev pub took : Net → Pick
+    abbrev pub took : Net → PassPick
     took n = record { sum = S n; net = some n }
 
-    -- what one net does to the scan and to best
-    pub scan-take : (n : Net) (ns : List Net) (p : Pick) → fits n ≡ true → ltb (p .sum) (S n) ≡ true → Scan (n ∷ ns) p ≡ Scan ns (took n)
-    unfolding scan
-    scan-take n ns p e l = ap (λ b. Scan ns (cond b (took n) p)) (and-both _ _ e l)
+    -- what one net does to the pass and to best
+    pub scan-take : (n : Net) (ns : List Net) (p : PassPick) → fits n ≡ true → ltb (p .sum) (S n) ≡ true → Pass (n ∷ ns) p ≡ Pass ns (took n)
+    unfolding onePass
+    scan-take n ns p e l = ap (λ b. Pass ns (cond b (took n) p)) (and-both _ _ e l)
 
-    pub scan-keep : (n : Net) (ns : List Net) (p : Pick) → fits n ≡ true → ltb (p .sum) (S n) ≡ false → Scan (n ∷ ns) p ≡ Scan ns p
-    unfolding scan
-    scan-keep n ns p e l = ap₂ (λ a b. Scan ns (cond (a && b) (took n) p)) e l
+    pub scan-keep : (n : Net) (ns : List Net) (p : PassPick) → fits n ≡ true → ltb (p .sum) (S n) ≡ false → Pass (n ∷ ns) p ≡ Pass ns p
+    unfolding onePass
+    scan-keep n ns p e l = ap₂ (λ a b. Pass ns (cond (a && b) (took n) p)) e l
 
-    pub scan-pass : (n : Net) (ns : List Net) (p : Pick) → fits n ≡ false → Scan (n ∷ ns) p ≡ Scan ns p
-    unfolding scan
-    scan-pass n ns p e = ap (λ b. Scan ns (cond (b && ltb (p .sum) (S n)) (took n) p)) e
+    pub scan-pass : (n : Net) (ns : List Net) (p : PassPick) → fits n ≡ false → Pass (n ∷ ns) p ≡ Pass ns p
+    unfolding onePass
+    scan-pass n ns p e = ap (λ b. Pass ns (cond (b && ltb (p .sum) (S n)) (took n) p)) e
 
     at-fits : (n : Net) (ns : List Net) → fits n ≡ true → At (n ∷ ns) ≡ max (S n) (At ns)
     unfolding bestAt
@@ -66,25 +66,25 @@ module _ (job : Job) (earlier : List ℕ) (t : ℕ) where
     unfolding bestAt
     at-pass n ns e = rw e
 
-    pub scan-sum : (ns : List Net) (p : Pick) → getD below 0 0 ≤ p .sum → Scan ns p .sum ≡ max (p .sum) (At ns)
-    unfolding scan bestAt
+    pub scan-sum : (ns : List Net) (p : PassPick) → getD below 0 0 ≤ p .sum → Pass ns p .sum ≡ max (p .sum) (At ns)
+    unfolding onePass bestAt
     scan-sum [] p h = omega arith
     scan-sum (n ∷ ns) p h =
         by-test (fits n)
         (λ e. by-test (ltb (p .sum) (S n))
-        (λ l. omega (arith, ltb-true (p .sum) (S n) l, ap (λ (q : Pick). q .sum) (scan-take n ns p e l), at-fits n ns e, scan-sum ns (took n) (omega (arith, ltb-true (p .sum) (S n) l))))
-        (λ l. omega (arith, ltb-false (p .sum) (S n) l, ap (λ (q : Pick). q .sum) (scan-keep n ns p e l), at-fits n ns e, scan-sum ns p h)))
-        (λ e. omega (arith, ap (λ (q : Pick). q .sum) (scan-pass n ns p e), at-pass n ns e, scan-sum ns p h))
+        (λ l. omega (arith, ltb-true (p .sum) (S n) l, ap (λ (q : PassPick). q .sum) (scan-take n ns p e l), at-fits n ns e, scan-sum ns (took n) (omega (arith, ltb-true (p .sum) (S n) l))))
+        (λ l. omega (arith, ltb-false (p .sum) (S n) l, ap (λ (q : PassPick). q .sum) (scan-keep n ns p e l), at-fits n ns e, scan-sum ns p h)))
+        (λ e. omega (arith, ap (λ (q : PassPick). q .sum) (scan-pass n ns p e), at-pass n ns e, scan-sum ns p h))
 
     -- the pick's net: the one of before where nothing is better, or else the first that reaches the best
     abbrev first : ℕ → List Net → Option Net
     first v ns = firstOf (λ n. fits n && eqb (S n) v) ns
 
     -- q is what the nets make of p
-    abbrev Picked : List Net → Pick → Pick → Type 0
+    abbrev Picked : List Net → PassPick → PassPick → Type 0
     Picked ns p q = q .net ≡ cond (eqb (q .sum) (p .sum)) (p .net) (first (q .sum) ns)
 
-    picked-take : (n : Net) (ns : List Net) (p q : Pick) → fits n ≡ true → p .sum < S n → S n ≤ q .sum → Picked ns (took n) q → Picked (n ∷ ns) p q
+    picked-take : (n : Net) (ns : List Net) (p q : PassPick) → fits n ≡ true → p .sum < S n → S n ≤ q .sum → Picked ns (took n) q → Picked (n ∷ ns) p q
     unfolding firstOf
     picked-take n ns p q e l m h =
         let a : eqb (q .sum) (p .sum) ≡ false = ne-eqb _ _ (λ (z : q .sum ≡ p .sum). omega arith) in
@@ -92,7 +92,7 @@ module _ (job : Job) (earlier : List ℕ) (t : ℕ) where
         (λ z. let b : eqb (S n) (q .sum) ≡ true = eq-eqb (S n) (q .sum) (sym (eqb-true (q .sum) (S n) z)) in rw (a, e, b) (rw z at h))
         (λ z. let b : eqb (S n) (q .sum) ≡ false = ne-eqb (S n) (q .sum) (λ y. eqb-false (q .sum) (S n) z (sym y)) in rw (a, e, b) (rw z at h))
 
-    picked-keep : (n : Net) (ns : List Net) (p q : Pick) → S n ≤ p .sum → p .sum ≤ q .sum → Picked ns p q → Picked (n ∷ ns) p q
+    picked-keep : (n : Net) (ns : List Net) (p q : PassPick) → S n ≤ p .sum → p .sum ≤ q .sum → Picked ns p q → Picked (n ∷ ns) p q
     unfolding firstOf
     picked-keep n ns p q l m h =
         by-test (eqb (q .sum) (p .sum))
@@ -101,12 +101,12 @@ module _ (job : Job) (earlier : List ℕ) (t : ℕ) where
         let b : eqb (S n) (q .sum) ≡ false = ne-eqb _ _ (λ (y : S n ≡ q .sum). eqb-false (q .sum) (p .sum) z (omega arith)) in
         rw (z, b, and-false (fits n)) (rw z at h))
 
-    picked-pass : (n : Net) (ns : List Net) (p q : Pick) → fits n ≡ false → Picked ns p q → Picked (n ∷ ns) p q
+    picked-pass : (n : Net) (ns : List Net) (p q : PassPick) → fits n ≡ false → Picked ns p q → Picked (n ∷ ns) p q
     unfolding firstOf
     picked-pass n ns p q e h = rw e h
 
-    pub scan-net : (ns : List Net) (p : Pick) → getD below 0 0 ≤ p .sum → Picked ns p (Scan ns p)
-    unfolding scan
+    pub scan-net : (ns : List Net) (p : PassPick) → getD below 0 0 ≤ p .sum → Picked ns p (Pass ns p)
+    unfolding onePass
     scan-net [] p h = rw (eq-eqb (p .sum) (p .sum) refl)
     scan-net (n ∷ ns) p h =
         by-test (fits n)
@@ -114,16 +114,16 @@ module _ (job : Job) (earlier : List ℕ) (t : ℕ) where
         (λ l.
         let l′ : p .sum < S n = ltb-true _ _ l in
         subst (Picked (n ∷ ns) p) (sym (scan-take n ns p e l))
-        (picked-take n ns p (Scan ns (took n)) e l′ (omega (arith, scan-sum ns (took n) (omega arith))) (scan-net ns (took n) (omega arith))))
+        (picked-take n ns p (Pass ns (took n)) e l′ (omega (arith, scan-sum ns (took n) (omega arith))) (scan-net ns (took n) (omega arith))))
         (λ l.
         let l′ : S n ≤ p .sum = ltb-false _ _ l in
         subst (Picked (n ∷ ns) p) (sym (scan-keep n ns p e l))
-        (picked-keep n ns p (Scan ns p) l′ (omega (arith, scan-sum ns p h)) (scan-net ns p h))))
-        (λ e. subst (Picked (n ∷ ns) p) (sym (scan-pass n ns p e)) (picked-pass n ns p (Scan ns p) e (scan-net ns p h)))
+        (picked-keep n ns p (Pass ns p) l′ (omega (arith, scan-sum ns p h)) (scan-net ns p h))))
+        (λ e. subst (Picked (n ∷ ns) p) (sym (scan-pass n ns p e)) (picked-pass n ns p (Pass ns p) e (scan-net ns p h)))
 
   -- the pass over all the nets, from best(j + 1) and no net
-  abbrev pub rowPick : ℕ → Pick
-  rowPick k = scan (job .board .rows - k) (table job earlier t k) (job .nets) (record { sum = bestLast job earlier t k; net = none })
+  abbrev pub rowPick : ℕ → PassPick
+  rowPick k = onePass (job .board .rows - k) (table job earlier t k) (job .nets) (record { sum = bestLast job earlier t k; net = none })
 
   pub row-sum : (k : ℕ) → rowPick k .sum ≡ bestLast job earlier t (suc k)
   unfolding bestLast

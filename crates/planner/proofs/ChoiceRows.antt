@@ -6,6 +6,8 @@ use mathlib.Core.Logic.{⊎-elim}
 use mathlib.Core.Option.{none, some}
 use mathlib.Core.List.{List, [], _∷_, List·Memᴰ, List·Memᴰ·cases-cons, List·Memᴰ·not-nil}
 use native.Mathlib.Omega.{arith}
+use mathlib.Core.Bool.{Bool}
+use lib.Dec.{eqb}
 use lib.ListN.{length, getD, List·getD-append}
 use borrow.Author.Tests.{eq-eqb, ne-eqb}
 use Rattle.lists.specs.Lists.{EachPair}
@@ -13,7 +15,12 @@ use Rattle.lists.proofs.Laws.{Each-at}
 use Rattle.board.specs.declared.Net.{Net}
 use Rattle.board.specs.Job.{Job}
 use Rattle.packing.specs.Walk.{choiceAt}
-use Rattle.choice.specs.TrackPlans.{noChoice, indexFrom, indexOf, choicesOf, trackPlanOf}
+use Rattle.candidates.specs.Placed.{indexFrom}
+use Rattle.choice.specs.TrackPlans.{noChoice, indexOf, choicesOf, trackPlanOf}
+
+-- has the number of net n
+abbrev numbered : Net → Net → Bool
+numbered n m = eqb (m .number) (n .number)
 
 -- i is the index of net n
 pub record IndexOf (ns : List Net) (n : Net) (i : ℕ) : Type 0 where
@@ -27,7 +34,7 @@ index-next m n ns i j h r =
 
 -- a net's index by its number, where the first net of the list has index i
 pub index-from : (ns : List Net) (n : Net) (i : ℕ) → EachPair (λ a b. a .number < b .number) ns → List·Memᴰ n ns →
-    (i ≤ indexFrom i ns (n .number)) × IndexOf ns n (indexFrom i ns (n .number) - i)
+    (i ≤ indexFrom (numbered n) i ns) × IndexOf ns n (indexFrom (numbered n) i ns - i)
 unfolding indexFrom
 index-from [] n i rise m = absurd (List·Memᴰ·not-nil m)
 index-from (x ∷ xs) n i rise m =
@@ -40,14 +47,14 @@ index-from (x ∷ xs) n i rise m =
     let l : x .number < n .number = Each-at (λ y. x .number < y .number) xs n (rise .0) m′ in
     let more = index-from xs n (suc i) (rise .1) m′ in
     rw (ne-eqb (x .number) (n .number) (λ (q : x .number ≡ n .number). omega arith))
-    (omega (arith, more .0), index-next x n xs i (indexFrom (suc i) xs (n .number)) (more .0) (more .1)))
+    (omega (arith, more .0), index-next x n xs i (indexFrom (numbered n) (suc i) xs) (more .0) (more .1)))
     (List·Memᴰ·cases-cons m)
 
 pub index-of : (job : Job) (n : Net) → EachPair (λ a b. a .number < b .number) (job .nets) → List·Memᴰ n (job .nets) →
     IndexOf (job .nets) n (indexOf job (some n))
 unfolding indexOf
 index-of job n rise m =
-    let e : indexFrom 0 (job .nets) (n .number) - 0 ≡ indexFrom 0 (job .nets) (n .number) = omega arith in
+    let e : indexFrom (numbered n) 0 (job .nets) - 0 ≡ indexFrom (numbered n) 0 (job .nets) = omega arith in
     rw e at (index-from (job .nets) n 0 rise m .1)
 
 pub index-none : (job : Job) → indexOf job none ≡ noChoice

@@ -12,7 +12,7 @@ use Rattle.board.specs.Job.{Job}
 use Rattle.board.specs.Stored.{noNet}
 use Rattle.board.specs.Unbeaten.{FilledTrack, numbersOn}
 use Rattle.board.specs.Tests.{isOn}
-use Rattle.board.specs.Accepted.{Accepted}
+use Rattle.board.specs.Accepted.{AcceptedJob}
 use Rattle.candidates.specs.declared.Candidates.{Candidates}
 use Rattle.candidates.specs.Placed.{Placed}
 use Rattle.candidates.specs.Gathered.{Gathered, GatheredFrom}
@@ -53,7 +53,7 @@ gathered-first job t p before after c o g =
     g .gathered (onFirst job (t - 1)) (rw (o .so-far) (placed-first job (t - 1)))
 
 -- ---- before track 1 nothing is planned
-pub none-planned : (job : Job) → Accepted job → noProgress ≡ progressTo job 0
+pub none-planned : (job : Job) → AcceptedJob job → noProgress ≡ progressTo job 0
 unfolding noProgress progressOf storedPlan standFrom
 none-planned job a =
     let placed = map-padded (placedOn []) 0 (job .nets) 512 (λ n. refl) (a .nets-count) in

@@ -10,7 +10,7 @@ use Rattle.board.specs.declared.Net.{Net}
 use Rattle.board.specs.Length.{shortest}
 use Rattle.board.specs.Job.{Job}
 use Rattle.board.specs.Unbeaten.{FilledTrack, emptyTrack, numbersOn}
-use Rattle.board.specs.Accepted.{Accepted}
+use Rattle.board.specs.Accepted.{AcceptedJob}
 use Rattle.board.specs.Tests.{isOn}
 use Rattle.packing.specs.Walk.{wiresOf}
 use Rattle.packing.proofs.ByRow.{best-largest}
@@ -40,7 +40,7 @@ module _ (job : Job) where
   unfolding looseNets looseOf jobPlanOf storedPlan
   loose-of-plan = loose-from (planOf job) (job .nets) (replicate (512 - length (job .nets)) noPlan)
 
-  module _ (a : Accepted job) where
+  module _ (a : AcceptedJob job) where
     plan-shortest : (i : ℕ) → i < job .board .tracks → Each (λ p. p .shape ≡ shortest (job .board) (p .net)) (getD (planOf job) i emptyTrack .wires)
     unfolding filledTrack wiresOf
     plan-shortest i h = rw (plan-at job i emptyTrack h) (best-largest job (onFirst job i) (suc i) (all-allowed job a) 1 (omega arith) .at-shortest)

@@ -14,7 +14,7 @@ use Rattle.board.specs.Job.{Job}
 use Rattle.board.specs.Placement.{Placement}
 use Rattle.board.specs.Rival.{Placeable, Rival}
 use Rattle.board.specs.Unbeaten.{FilledTrack}
-use Rattle.board.specs.Accepted.{Accepted}
+use Rattle.board.specs.Accepted.{AcceptedJob}
 use Rattle.board.proofs.SameNumber.{same-number}
 use Rattle.packing.specs.Best.{best}
 use Rattle.packing.specs.Walk.{wiresOf}
@@ -45,7 +45,7 @@ sums-put (x ∷ xs) tr room = ap (λ l. x .sum ∷ l) (sums-put xs tr room)
 abbrev pub place : Job → Net → ℕ
 place job n = indexOf job (some n)
 
-module _ (job : Job) (a : Accepted job) where
+module _ (job : Job) (a : AcceptedJob job) where
   -- the wires of a track: a rival sequence, of nets that differ and stand on no earlier track
   module _ (earlier : List ℕ) (t : ℕ) where
     abbrev ws : List Placement

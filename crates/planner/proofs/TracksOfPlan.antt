@@ -18,7 +18,7 @@ use Rattle.board.specs.Job.{Job}
 use Rattle.board.specs.Placement.{Placement}
 use Rattle.board.specs.Rival.{Placeable}
 use Rattle.board.specs.Unbeaten.{FilledTrack, emptyTrack}
-use Rattle.board.specs.Accepted.{Accepted}
+use Rattle.board.specs.Accepted.{AcceptedJob}
 use Rattle.packing.specs.Walk.{wiresOf}
 use Rattle.planning.specs.Plan.{filledTrack, planOf}
 use Rattle.candidates.proofs.Prefixes.{same-key}
@@ -83,7 +83,7 @@ module _ (t row : ℕ) (f : Net → NetPlan) (rest : List NetPlan) where
       rw e′ (row-one ns p (rise .1) m′ e (λ x i. h x (List·Memᴰ·tail i))))
       (List·Memᴰ·cases-cons m)
 
-module _ (job : Job) (a : Accepted job) where
+module _ (job : Job) (a : AcceptedJob job) where
   -- ---- one track
   module _ (i : ℕ) (h : i < job .board .tracks) where
     abbrev ws : List Placement

@@ -14,7 +14,7 @@ use Rattle.board.specs.Length.{shortest, needed}
 use Rattle.board.specs.Job.{Job}
 use Rattle.board.specs.Stored.{jobOf}
 use Rattle.board.specs.Placement.{Placement}
-use Rattle.board.specs.Accepted.{Accepted, AcceptedNet}
+use Rattle.board.specs.Accepted.{AcceptedJob, AcceptedNet}
 use Rattle.packing.specs.Walk.{choiceAt, walkFrom, wiresOf}
 use Rattle.packing.proofs.Fitting.{fits-within}
 use Rattle.packing.proofs.WalkIsRival.{choice-some}
@@ -45,7 +45,7 @@ stored-there s n i r d =
     sym (getD-take (s .nnets) (s .nets) i d (omega (arith, length-take (s .nnets) (s .nets)))) ∙ r .there d
 
 -- ---- the choice for row j by value
-module _ (s : StoredJob) (a : Accepted (jobOf s)) (t : ℕ) (plan : TrackPlan) (o : plan ≡ trackPlan (jobOf s) t) where
+module _ (s : StoredJob) (a : AcceptedJob (jobOf s)) (t : ℕ) (plan : TrackPlan) (o : plan ≡ trackPlan (jobOf s) t) where
   abbrev job : Job
   job = jobOf s
 
@@ -130,7 +130,7 @@ walking-some s t p q j i k shape rows w h e f =
     })
 
 -- below the last row all wires are stored, and with the track's sum that is what is planned after the track
-module _ (job : Job) (a : Accepted job) (t : ℕ) (p : Progress) (plan : TrackPlan) (o : OnTurn job t p) (e : plan ≡ trackPlan job t) (q : Progress) (j : ℕ)
+module _ (job : Job) (a : AcceptedJob job) (t : ℕ) (p : Progress) (plan : TrackPlan) (o : OnTurn job t p) (e : plan ≡ trackPlan job t) (q : Progress) (j : ℕ)
     (w : Walking job t (record { placed = p .placed; nets = p .nets; sums = set (p .sums) (t - 1) (plan .sum) }) q j) (h : job .board .rows < j) where
   abbrev u : ℕ
   u = t - 1

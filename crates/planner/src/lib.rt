@@ -1,6 +1,6 @@
 // The plan of a job by value: tracks 1 to K in order, each chosen with the nets of the tracks before it held.
 ghost use mathlib.Core.Path.{_≡_};
-ghost use Rattle.board.specs.Accepted.{Accepted};
+ghost use Rattle.board.specs.Accepted.{AcceptedJob};
 ghost use Rattle.board.specs.Stored.{jobOf};
 ghost use Prim.Native.Nat.{_≤_};
 ghost use lib.ListN.{length};
@@ -50,7 +50,7 @@ pub struct Progress {
 
 // A track recorded from its plan: the walk from row 1 takes the net chosen for a row, and goes on below it.
 pub fn record_track(p: Progress, job: StoredJob, plan: TrackPlan, track: Track) -> Progress
-    requires { ⌜ Accepted (jobOf job) ⌝ }
+    requires { ⌜ AcceptedJob (jobOf job) ⌝ }
     requires { ⌜ OnTurn (jobOf job) (track .0) p ⌝ }
     requires { ⌜ plan ≡ trackPlan (jobOf job) (track .0) ⌝ }
     ensures { λ r. ⌜ r ≡ progressTo (jobOf job) (track .0) ⌝ }

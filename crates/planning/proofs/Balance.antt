@@ -16,7 +16,7 @@ use Rattle.board.specs.Job.{Job}
 use Rattle.board.specs.Placement.{Placement, Legal}
 use Rattle.board.specs.Rival.{Apart, Rival, rivalSum, worthSum}
 use Rattle.board.specs.Unbeaten.{FilledTrack, numbers, numbersOn}
-use Rattle.board.specs.Accepted.{Accepted}
+use Rattle.board.specs.Accepted.{AcceptedJob}
 use Rattle.board.proofs.ShortestShape.{span-add}
 use Rattle.board.proofs.SameNumber.{same-number}
 use Rattle.board.specs.Tests.{isOn}
@@ -132,7 +132,7 @@ unfolding without isOn anyOf
 without-none [] = refl
 without-none (n ∷ ns) = ap (λ l. n ∷ l) (without-none ns)
 
-pub sums-add-up : (job : Job) → Accepted job → worthSum (job .board) (job .nets) ≡ sumOfTracks (planOf job) + worthSum (job .board) (looseOf job (planOf job))
+pub sums-add-up : (job : Job) → AcceptedJob job → worthSum (job .board) (job .nets) ≡ sumOfTracks (planOf job) + worthSum (job .board) (looseOf job (planOf job))
 unfolding planOf looseOf
 sums-add-up job a =
     let p = plan-out job (a .numbers-rise) (all-allowed job a) (job .board .tracks) 1 [] in

@@ -9,7 +9,7 @@ use Rattle.board.specs.declared.Net.{Net}
 use Rattle.board.specs.Length.{Allowed, shortest}
 use Rattle.board.specs.Job.{Job}
 use Rattle.board.specs.Unbeaten.{emptyTrack, numbers, numbersOn, Optimal, Unbeaten}
-use Rattle.board.specs.Accepted.{Accepted}
+use Rattle.board.specs.Accepted.{AcceptedJob}
 use Rattle.board.proofs.Tops.{accepted-shortest}
 use Rattle.packing.specs.Best.{best}
 use Rattle.packing.specs.Walk.{walkFrom, wiresOf}
@@ -19,7 +19,7 @@ use Rattle.packing.proofs.ByRow.{best-largest, walk-step}
 use Rattle.planning.specs.Plan.{filledTrack, planFrom, planOf}
 
 -- every net of an accepted job is allowed in its shortest shape
-pub all-allowed : (job : Job) → Accepted job → (n : Net) → List·Memᴰ n (job .nets) → Allowed (job .board) n (shortest (job .board) n)
+pub all-allowed : (job : Job) → AcceptedJob job → (n : Net) → List·Memᴰ n (job .nets) → Allowed (job .board) n (shortest (job .board) n)
 all-allowed job a n i = accepted-shortest (job .board) n (a .nets-each n i)
 
 module _ (job : Job) (allowed : (n : Net) → List·Memᴰ n (job .nets) → Allowed (job .board) n (shortest (job .board) n)) where
@@ -47,7 +47,7 @@ module _ (job : Job) (allowed : (n : Net) → List·Memᴰ n (job .nets) → All
       let e : suc t + i ≡ t + suc i = omega arith in
       rw (append-assoc earlier (numbers ws), e) at (plan-each k (suc t) (earlier ++ numbers ws) i (omega arith))
 
-pub plan-unbeaten : (job : Job) → Accepted job → Unbeaten job (planOf job)
+pub plan-unbeaten : (job : Job) → AcceptedJob job → Unbeaten job (planOf job)
 unfolding planOf
 plan-unbeaten job a =
     let allowed = all-allowed job a in
@@ -58,10 +58,10 @@ plan-unbeaten job a =
 
 -- ---- of an accepted job: best(j) for every row, and the walk's step at every row
 
-pub accepted-best : (job : Job) → Accepted job → (earlier : List ℕ) (t j : ℕ) → j ≤ job .board .rows + 1 →
+pub accepted-best : (job : Job) → AcceptedJob job → (earlier : List ℕ) (t j : ℕ) → j ≤ job .board .rows + 1 →
     LargestSum job earlier t j (walkFrom job earlier t j) (best job earlier t j)
 accepted-best job a earlier t j h = best-largest job earlier t (all-allowed job a) j h
 
-pub accepted-step : (job : Job) → Accepted job → (earlier : List ℕ) (t j : ℕ) → 1 ≤ j → j ≤ job .board .rows →
+pub accepted-step : (job : Job) → AcceptedJob job → (earlier : List ℕ) (t j : ℕ) → 1 ≤ j → j ≤ job .board .rows →
     WalkStep job earlier t (best job earlier t) (walkFrom job earlier t) j
 accepted-step job a earlier t j l h = walk-step job earlier t (all-allowed job a) (a .numbers-rise) j l h

@@ -14,19 +14,19 @@ use Rattle.jobfile.specs.declared.Outcome.the-variants.{NotOfForm, OutOfRange}
 use Rattle.jobfile.specs.Read.{Next, go, stop, sized, filled, unless, within, atStart, atOpened, atSized, atFilled, netOf, blockOf, boardOf, emptyBoard, addNet, addBlock, step}
 use Rattle.jobfile.specs.Answers.{numberOf}
 use Rattle.jobrules.specs.Rules.{Filled, outcomeOf}
-use Rattle.reader.specs.Progress.{mayStand, stateOf, onward, progressOf, Held}
-use Rattle.reader.specs.declared.Progress.{Progress}
+use Rattle.reader.specs.LinesTaken.{mayStand, stateOf, onward, linesTakenOf, Held}
+use Rattle.reader.specs.declared.LinesTaken.{LinesTaken}
 
 -- what the code holds behind a line that was tested
 
-pub refused-is : (x : Next) (o : Outcome) → o ≡ outcomeOf x → (numberOf o ≡ 0 → ⊥) → progressOf (stop o) ≡ progressOf x
+pub refused-is : (x : Next) (o : Outcome) → o ≡ outcomeOf x → (numberOf o ≡ 0 → ⊥) → linesTakenOf (stop o) ≡ linesTakenOf x
 unfolding outcomeOf
 refused-is (go s) o e h = absurd (h (ap numberOf e))
-refused-is (stop p) o e h = ap (λ (q : Outcome). progressOf (stop q)) e
+refused-is (stop p) o e h = ap (λ (q : Outcome). linesTakenOf (stop q)) e
 
 pub taken-is : (x : Next) (job : Job) (o : Outcome) (w : StoredJob) → x ≡ go (filled job) → o ≡ outcomeOf x → w ≡ storedOf job →
-    record { outcome = o; stage = 3; job = w } ≡ progressOf x
-unfolding outcomeOf progressOf
+    record { outcome = o; stage = 3; job = w } ≡ linesTakenOf x
+unfolding outcomeOf linesTakenOf
 taken-is x job o w e f g = rw (f, g, e)
 
 -- a form out of its place
@@ -114,25 +114,25 @@ module _ (k stage : ℕ) (job : StoredJob) (form : Form) where
     unfolding mayStand
     block-filled t a b e p = filled-here (at-stage 3 (ap (mayStand stage) e) p)
 
-    pub blank-line : form ≡ Is.Blank → onward stage job ≡ progressOf (step k (stateOf stage job) form)
+    pub blank-line : form ≡ Is.Blank → onward stage job ≡ linesTakenOf (step k (stateOf stage job) form)
     unfolding step
     blank-line e = rw e (sym (held .value))
 
     pub board-line : form ≡ Is.Board → mayStand stage form ≡ true →
-        onward 1 job ≡ progressOf (step k (stateOf stage job) form)
-    unfolding mayStand step stateOf atStart progressOf
+        onward 1 job ≡ linesTakenOf (step k (stateOf stage job) form)
+    unfolding mayStand step stateOf atStart linesTakenOf
     board-line e p =
         let s : stage ≡ 0 = at-stage 0 (ap (mayStand stage) e) p in
-        let v = ap (λ (q : Progress). q .job) (rw s at (held .value)) in
+        let v = ap (λ (q : LinesTaken). q .job) (rw s at (held .value)) in
         rw (e, s, v)
 
     pub close-line : form ≡ Is.Close → mayStand stage form ≡ true →
-        onward 4 job ≡ progressOf (step k (stateOf stage job) form)
-    unfolding mayStand step stateOf atFilled progressOf
+        onward 4 job ≡ linesTakenOf (step k (stateOf stage job) form)
+    unfolding mayStand step stateOf atFilled linesTakenOf
     close-line e p =
         let s : stage ≡ 3 = at-stage 3 (ap (mayStand stage) e) p in
         rw (e, s, filled-here s .stored)
 
-  pub other-line : form ≡ Is.Other → progressOf (stop (NotOfForm k)) ≡ progressOf (step k (stateOf stage job) form)
+  pub other-line : form ≡ Is.Other → linesTakenOf (stop (NotOfForm k)) ≡ linesTakenOf (step k (stateOf stage job) form)
   unfolding step
   other-line e = rw e

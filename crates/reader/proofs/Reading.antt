@@ -22,11 +22,11 @@ use Rattle.jobfile.specs.Read.{State, start, Next, go, stop, step, Read, ended 
 use Rattle.jobfile.specs.Answers.{numberOf, noJob, answerOf}
 use Rattle.jobfile.specs.Faults.{isBlank}
 use Rattle.reader.specs.Cursors.{formOn, formStep}
-use Rattle.reader.specs.Progress.{stateOf, progressOf, Held}
+use Rattle.reader.specs.LinesTaken.{stateOf, linesTakenOf, Held}
 use Rattle.reader.specs.declared.Cursor.{Cursor}
 use Rattle.reader.specs.declared.FormStep.the-variants as At
-use Rattle.reader.specs.declared.Progress.{Progress}
-use Rattle.reader.proofs.States.{Sound, state-back, held-of, held-good, go-accepted, step-sound}
+use Rattle.reader.specs.declared.LinesTaken.{LinesTaken}
+use Rattle.reader.proofs.States.{LeadsOn, state-back, held-of, held-good, go-accepted, step-sound}
 
 -- the line behind a form that was read
 
@@ -60,34 +60,34 @@ blank-form (Is.Block t a b) e = absurd (false≢true e)
 blank-form Is.Close e = absurd (false≢true e)
 blank-form Is.Other e = absurd (false≢true e)
 
-record Goes (y : Next) (t : Progress) : Type 0 where
+record Goes (y : Next) (t : LinesTaken) : Type 0 where
   on : y ≡ go (stateOf (t .stage) (t .job))
   held : Held (t .stage) (t .job)
 
-goes : (k : ℕ) (y : Next) (t : Progress) → Sound k y → t ≡ progressOf y → numberOf (t .outcome) ≡ 0 → Goes y t
-unfolding progressOf
+goes : (k : ℕ) (y : Next) (t : LinesTaken) → LeadsOn k y → t ≡ linesTakenOf y → numberOf (t .outcome) ≡ 0 → Goes y t
+unfolding linesTakenOf
 goes k (go s) t g e z = rw e (record { on = ap go (sym (state-back s)); held = held-of s g })
-goes k (stop o) t g e z = absurd (g .0 (sym (ap (λ (p : Progress). numberOf (p .outcome)) e) ∙ z))
+goes k (stop o) t g e z = absurd (g .0 (sym (ap (λ (p : LinesTaken). numberOf (p .outcome)) e) ∙ z))
 
-stops : (y : Next) (f : State → Read) (t : Progress) → t ≡ progressOf y → (numberOf (t .outcome) ≡ 0 → ⊥) →
+stops : (y : Next) (f : State → Read) (t : LinesTaken) → t ≡ linesTakenOf y → (numberOf (t .outcome) ≡ 0 → ⊥) →
     record { outcome = t .outcome; job = t .job } ≡ answerOf (follow y f)
-unfolding progressOf follow answerOf
-stops (go s) f t e h = absurd (h (ap (λ (p : Progress). numberOf (p .outcome)) e ∙ ap numberOf (go-accepted s)))
-stops (stop o) f t e h = ap (λ (p : Progress). record { outcome = p .outcome; job = p .job }) e
+unfolding linesTakenOf follow answerOf
+stops (go s) f t e h = absurd (h (ap (λ (p : LinesTaken). numberOf (p .outcome)) e ∙ ap numberOf (go-accepted s)))
+stops (stop o) f t e h = ap (λ (p : LinesTaken). record { outcome = p .outcome; job = p .job }) e
 
 -- a text whose lines from the reading place on are left, where a stage and a job hold those above
-pub record Going (s : List ℕ) (stage : ℕ) (job : StoredJob) (p : Cursor) : Type 0 where
+pub record LinesLeft (s : List ℕ) (stage : ℕ) (job : StoredJob) (p : Cursor) : Type 0 where
   pub held : Held stage job
   pub counted : p .place .passed ≤ p .place .at
   pub inside : p .place .at ≤ length s
   pub rest : readFrom 1 start (lines s) ≡ readFrom (suc (p .place .passed)) (stateOf stage job) (lines (drop (p .place .at) s))
 
-pub going-start : (s : List ℕ) (job : StoredJob) (p : Cursor) → job ≡ storedOf noJob → p .place .at ≡ 0 → p .place .passed ≡ 0 → Going s 0 job p
-unfolding stateOf progressOf
-going-start s job p e f h =
+pub left-start : (s : List ℕ) (job : StoredJob) (p : Cursor) → job ≡ storedOf noJob → p .place .at ≡ 0 → p .place .passed ≡ 0 → LinesLeft s 0 job p
+unfolding stateOf linesTakenOf
+left-start s job p e f h =
     record { held = rw e (held-of start tt); counted = omega arith; inside = omega arith; rest = rw (f, h) }
 
-module _ (s : List ℕ) (stage : ℕ) (job : StoredJob) (p : Cursor) (w : Going s stage job p) where
+module _ (s : List ℕ) (stage : ℕ) (job : StoredJob) (p : Cursor) (w : LinesLeft s stage job p) where
   module _ (x : Form) (n : Cursor) (e : At.Read x n ≡ formStep s p) where
     seen : Behind s (stepAt s (p .place)) x n
     unfolding formStep
@@ -105,18 +105,18 @@ module _ (s : List ℕ) (stage : ℕ) (job : StoredJob) (p : Cursor) (w : Going 
         let q : suc (p .place .passed) ≡ n .place .passed = omega (arith, moved .counted) in
         w .rest ∙ rw (moved .line, ← seen .form, q, moved .counted)
 
-    pub going-ahead : p .place .at < n .place .at
-    going-ahead = moved .ahead
+    pub left-ahead : p .place .at < n .place .at
+    left-ahead = moved .ahead
 
-    pub going-within : n .place .at ≤ length s
-    going-within = moved .within
+    pub left-within : n .place .at ≤ length s
+    left-within = moved .within
 
     counted-next : n .place .passed ≤ n .place .at
     counted-next = omega (arith, moved .counted, moved .ahead, w .counted)
 
-    pub going-blank : isBlank x ≡ true → Going s stage job n
+    pub left-blank : isBlank x ≡ true → LinesLeft s stage job n
     unfolding step follow
-    going-blank b =
+    left-blank b =
         record {
           held = w .held;
           counted = counted-next;
@@ -124,10 +124,10 @@ module _ (s : List ℕ) (stage : ℕ) (job : StoredJob) (p : Cursor) (w : Going 
           rest = turn ∙ rw (blank-form x b);
         }
 
-    module _ (t : Progress) (k : t ≡ progressOf led) where
-      pub going-more : numberOf (t .outcome) ≡ 0 → Going s (t .stage) (t .job) n
+    module _ (t : LinesTaken) (k : t ≡ linesTakenOf led) where
+      pub left-more : numberOf (t .outcome) ≡ 0 → LinesLeft s (t .stage) (t .job) n
       unfolding follow
-      going-more z =
+      left-more z =
           let g = goes (p .place .passed + 1) led t (step-sound (p .place .passed + 1) (stateOf stage job) x (held-good stage job (w .held))) k z in
           record {
             held = g .held;
@@ -136,13 +136,13 @@ module _ (s : List ℕ) (stage : ℕ) (job : StoredJob) (p : Cursor) (w : Going 
             rest = turn ∙ rw (g .on);
           }
 
-      pub going-refused : (numberOf (t .outcome) ≡ 0 → ⊥) → record { outcome = t .outcome; job = t .job } ≡ answerOf (readFrom 1 start (lines s))
-      going-refused h = stops led _ t k h ∙ ap answerOf (sym turn)
+      pub left-refused : (numberOf (t .outcome) ≡ 0 → ⊥) → record { outcome = t .outcome; job = t .job } ≡ answerOf (readFrom 1 start (lines s))
+      left-refused h = stops led _ t k h ∙ ap answerOf (sym turn)
 
   -- the end of the text
-  pub going-over : At.End ≡ formStep s p → endedAt (p .place .passed + 1) (stateOf stage job) ≡ readFrom 1 start (lines s)
+  pub left-over : At.End ≡ formStep s p → endedAt (p .place .passed + 1) (stateOf stage job) ≡ readFrom 1 start (lines s)
   unfolding formStep readFrom
-  going-over e = sym (w .rest ∙ (rw (ended s (p .place) (none-left s (stepAt s (p .place)) e) .0, add-one (p .place .passed))))
+  left-over e = sym (w .rest ∙ (rw (ended s (p .place) (none-left s (stepAt s (p .place)) e) .0, add-one (p .place .passed))))
 
 -- the length is tested first
 

@@ -23,7 +23,7 @@ use Rattle.jobfile.specs.Answers.{numberOf, lineOf, answerOf}
 use Rattle.jobfile.proofs.Outcomes.{number-below}
 use Rattle.jobfile.proofs.Returned.{returned-job}
 use Rattle.reader.specs.Reports.{refusedText, acceptedText, reportText}
-use Rattle.reader.proofs.States.{Good, Sound, step-sound}
+use Rattle.reader.proofs.States.{SizedState, LeadsOn, step-sound}
 
 -- ---- the line that a refusal names
 
@@ -39,12 +39,12 @@ ended-line k (sized h) = omega arith
 ended-line k (filled job) = omega arith
 ended-line k (closed job) = tt
 
-follow-line : (j k : ℕ) (x : Next) (f : State → Read) → Sound j x → j ≤ k → ((s : State) → Good s → Bounded k (f s)) → Bounded k (follow x f)
+follow-line : (j k : ℕ) (x : Next) (f : State → Read) → LeadsOn j x → j ≤ k → ((s : State) → SizedState s → Bounded k (f s)) → Bounded k (follow x f)
 unfolding Bounded follow
 follow-line j k (go s) f g h b = b s g
 follow-line j k (stop o) f g h b = omega (arith, g .1)
 
-from-line : (j k : ℕ) (s : State) (ls : List (List ℕ)) → Good s → j + length ls ≡ k → Bounded k (readFrom j s ls)
+from-line : (j k : ℕ) (s : State) (ls : List (List ℕ)) → SizedState s → j + length ls ≡ k → Bounded k (readFrom j s ls)
 unfolding readFrom
 from-line j k s [] g e = let q : j ≡ k = omega arith in rw (← q) (ended-line j s)
 from-line j k s (l ∷ ls) g e =

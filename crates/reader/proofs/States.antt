@@ -22,8 +22,8 @@ use Rattle.jobfile.specs.Answers.{numberOf, lineOf}
 use Rattle.jobfile.proofs.Tests.{within-is}
 use Rattle.board.proofs.StoredJobs.{job-back}
 use Rattle.jobrules.specs.Rules.{Filled}
-use Rattle.reader.specs.Progress.{stateOf, onward, progressOf, FilledAt, Held}
-use Rattle.reader.specs.declared.Progress.{Progress}
+use Rattle.reader.specs.LinesTaken.{stateOf, onward, linesTakenOf, FilledAt, Held}
+use Rattle.reader.specs.declared.LinesTaken.{LinesTaken}
 use Rattle.jobrules.proofs.Slots.{nets-used, blocks-used}
 
 -- a job whose size is in range and that has room for its nets and blocks
@@ -32,12 +32,12 @@ pub record Sized (job : Job) : Type 0 where
   pub nets-count : length (job .nets) ≤ 512
   pub blocks-count : length (job .blocks) ≤ 256
 
-abbrev pub Good : State → Type 0
-Good start = Unit {0}
-Good opened = Unit {0}
-Good (sized h) = (1 ≤ h) × (h ≤ 1024)
-Good (filled job) = Sized job
-Good (closed job) = Sized job
+abbrev pub SizedState : State → Type 0
+SizedState start = Unit {0}
+SizedState opened = Unit {0}
+SizedState (sized h) = (1 ≤ h) × (h ≤ 1024)
+SizedState (filled job) = Sized job
+SizedState (closed job) = Sized job
 
 -- ---- the code holds a good state
 
@@ -51,35 +51,35 @@ stored-filled job g =
       blocks-count = g .blocks-count;
     }
 
-pub state-back : (s : State) → stateOf (progressOf (go s) .stage) (progressOf (go s) .job) ≡ s
-unfolding stateOf progressOf storedOf
+pub state-back : (s : State) → stateOf (linesTakenOf (go s) .stage) (linesTakenOf (go s) .job) ≡ s
+unfolding stateOf linesTakenOf storedOf
 state-back start = refl
 state-back opened = refl
 state-back (sized h) = refl
 state-back (filled job) = ap filled (job-back job)
 state-back (closed job) = ap closed (job-back job)
 
-same-progress : (s : State) → progressOf (go s) ≡ onward (progressOf (go s) .stage) (progressOf (go s) .job)
-unfolding progressOf
+same-progress : (s : State) → linesTakenOf (go s) ≡ onward (linesTakenOf (go s) .stage) (linesTakenOf (go s) .job)
+unfolding linesTakenOf
 same-progress start = refl
 same-progress opened = refl
 same-progress (sized h) = refl
 same-progress (filled job) = refl
 same-progress (closed job) = refl
 
-ranges-of : (s : State) → Good s → FilledAt (progressOf (go s) .stage) (progressOf (go s) .job)
-unfolding progressOf storedOf
+ranges-of : (s : State) → SizedState s → FilledAt (linesTakenOf (go s) .stage) (linesTakenOf (go s) .job)
+unfolding linesTakenOf storedOf
 ranges-of start g = tt
 ranges-of opened g = tt
 ranges-of (sized h) g = g
 ranges-of (filled job) g = stored-filled job g
 ranges-of (closed job) g = stored-filled job g
 
-pub held-of : (s : State) → Good s → Held (progressOf (go s) .stage) (progressOf (go s) .job)
+pub held-of : (s : State) → SizedState s → Held (linesTakenOf (go s) .stage) (linesTakenOf (go s) .job)
 held-of s g = record { value = rw (state-back s) (same-progress s); ranges = ranges-of s g }
 
-pub go-accepted : (s : State) → progressOf (go s) .outcome ≡ Accepted
-go-accepted s = ap (λ (p : Progress). p .outcome) (same-progress s)
+pub go-accepted : (s : State) → linesTakenOf (go s) .outcome ≡ Accepted
+go-accepted s = ap (λ (p : LinesTaken). p .outcome) (same-progress s)
 
 filled-sized : (job : StoredJob) → Filled job → Sized (jobOf job)
 filled-sized job f =
@@ -89,7 +89,7 @@ filled-sized job f =
       blocks-count = omega (arith, blocks-used job f);
     }
 
-good-at : (stage : ℕ) (job : StoredJob) → FilledAt stage job → Good (stateOf stage job)
+good-at : (stage : ℕ) (job : StoredJob) → FilledAt stage job → SizedState (stateOf stage job)
 unfolding stateOf
 good-at zero job r = tt
 good-at (suc zero) job r = tt
@@ -97,24 +97,24 @@ good-at (suc (suc zero)) job r = r
 good-at (suc (suc (suc zero))) job r = filled-sized job r
 good-at (suc (suc (suc (suc stage)))) job r = filled-sized job r
 
-pub held-good : (stage : ℕ) (job : StoredJob) → Held stage job → Good (stateOf stage job)
+pub held-good : (stage : ℕ) (job : StoredJob) → Held stage job → SizedState (stateOf stage job)
 held-good stage job h = good-at stage job (h .ranges)
 
 -- ---- a line leads to a good state, or to a refusal on its line
 
-abbrev pub Sound : ℕ → Next → Type 0
-Sound k (go s) = Good s
-Sound k (stop o) = (numberOf o ≡ 0 → ⊥) × (lineOf o ≡ k)
+abbrev pub LeadsOn : ℕ → Next → Type 0
+LeadsOn k (go s) = SizedState s
+LeadsOn k (stop o) = (numberOf o ≡ 0 → ⊥) × (lineOf o ≡ k)
 
-not-form : (k : ℕ) → Sound k (stop (NotOfForm k))
+not-form : (k : ℕ) → LeadsOn k (stop (NotOfForm k))
 not-form k = (λ z. omega arith, refl)
 
-unless-sound : (k : ℕ) (b : Bool) (o : Outcome) (x : Next) → (numberOf o ≡ 0 → ⊥) → lineOf o ≡ k → (b ≡ true → Sound k x) → Sound k (unless b o x)
+unless-sound : (k : ℕ) (b : Bool) (o : Outcome) (x : Next) → (numberOf o ≡ 0 → ⊥) → lineOf o ≡ k → (b ≡ true → LeadsOn k x) → LeadsOn k (unless b o x)
 unfolding unless
 unless-sound k true o x h l f = f refl
 unless-sound k false o x h l f = (h, l)
 
-net-sound : (k : ℕ) (n : Net) (job : Job) → Sized job → Sound k (addNet k n job)
+net-sound : (k : ℕ) (n : Net) (job : Job) → Sized job → LeadsOn k (addNet k n job)
 unfolding addNet
 net-sound k n job g =
     unless-sound k _ _ _ (λ z. omega arith) refl (λ e3.
@@ -130,7 +130,7 @@ net-sound k n job g =
       blocks-count = g .blocks-count;
     })))))))
 
-block-sound : (k : ℕ) (b : Block) (job : Job) → Sized job → Sound k (addBlock k b job)
+block-sound : (k : ℕ) (b : Block) (job : Job) → Sized job → LeadsOn k (addBlock k b job)
 unfolding addBlock
 block-sound k b job g =
     unless-sound k _ _ _ (λ z. omega arith) refl (λ e3.
@@ -141,7 +141,7 @@ block-sound k b job g =
       blocks-count = omega (arith, length-append (job .blocks) (b ∷ []), ltb-true (length (job .blocks)) 256 e4);
     }))
 
-start-sound : (k : ℕ) (s : State) (x : Next) → Sound k x → Sound k (atStart k s x)
+start-sound : (k : ℕ) (s : State) (x : Next) → LeadsOn k x → LeadsOn k (atStart k s x)
 unfolding atStart
 start-sound k start x g = g
 start-sound k opened x g = not-form k
@@ -149,7 +149,7 @@ start-sound k (sized h) x g = not-form k
 start-sound k (filled j) x g = not-form k
 start-sound k (closed j) x g = not-form k
 
-opened-sound : (k : ℕ) (s : State) (x : Next) → Sound k x → Sound k (atOpened k s x)
+opened-sound : (k : ℕ) (s : State) (x : Next) → LeadsOn k x → LeadsOn k (atOpened k s x)
 unfolding atOpened
 opened-sound k start x g = not-form k
 opened-sound k opened x g = g
@@ -157,7 +157,7 @@ opened-sound k (sized h) x g = not-form k
 opened-sound k (filled j) x g = not-form k
 opened-sound k (closed j) x g = not-form k
 
-sized-sound : (k : ℕ) (s : State) (f : ℕ → Next) → Good s → ((h : ℕ) → Good (sized h) → Sound k (f h)) → Sound k (atSized k s f)
+sized-sound : (k : ℕ) (s : State) (f : ℕ → Next) → SizedState s → ((h : ℕ) → SizedState (sized h) → LeadsOn k (f h)) → LeadsOn k (atSized k s f)
 unfolding atSized
 sized-sound k start f a g = not-form k
 sized-sound k opened f a g = not-form k
@@ -165,7 +165,7 @@ sized-sound k (sized h) f a g = g h a
 sized-sound k (filled j) f a g = not-form k
 sized-sound k (closed j) f a g = not-form k
 
-filled-sound : (k : ℕ) (s : State) (f : Job → Next) → Good s → ((j : Job) → Sized j → Sound k (f j)) → Sound k (atFilled k s f)
+filled-sound : (k : ℕ) (s : State) (f : Job → Next) → SizedState s → ((j : Job) → Sized j → LeadsOn k (f j)) → LeadsOn k (atFilled k s f)
 unfolding atFilled
 filled-sound k start f a g = not-form k
 filled-sound k opened f a g = not-form k
@@ -177,7 +177,7 @@ empty-sized : (h t : ℕ) → (1 ≤ h) × (h ≤ 1024) → (1 ≤ t) × (t ≤ 
 empty-sized h t a b =
     record { board-range = record { rows-range = a; tracks-range = b }; nets-count = omega arith; blocks-count = omega arith }
 
-pub step-sound : (k : ℕ) (s : State) (x : Form) → Good s → Sound k (step k s x)
+pub step-sound : (k : ℕ) (s : State) (x : Form) → SizedState s → LeadsOn k (step k s x)
 unfolding step
 step-sound k s Is.Blank g = g
 step-sound k s Is.Board g = start-sound k s (go opened) tt

@@ -19,7 +19,7 @@ ghost use Rattle.jobfile.specs.Answers.{answerOf};
 ghost use Rattle.jobfile.specs.Faults.{isBlank};
 ghost use Rattle.jobrules.specs.Rules.{Filled};
 ghost use Rattle.reader.specs.Cursors.{formStep};
-ghost use Rattle.reader.specs.Progress.{mayStand, stateOf, onward, progressOf, Held};
+ghost use Rattle.reader.specs.LinesTaken.{mayStand, stateOf, onward, linesTakenOf, Held};
 ghost use Rattle.reader.specs.Reports.{refusedText, reportText};
 
 // The reading place: it moves on by a whole line, never back.
@@ -46,7 +46,7 @@ const FILLED: usize = 3;
 const CLOSED: usize = 4;
 
 // What the lines above hold: the outcome of the last of them, the stage that they come to, and the job so far.
-struct Progress {
+struct LinesTaken {
     pub outcome: Outcome,
     pub stage: usize,
     pub job: StoredJob,
@@ -81,11 +81,11 @@ impl Cursor {
 }
 
 // A line that is refused: nothing is held any more.
-fn refused(outcome: Outcome) -> Progress
-    ensures { λ r. ⌜ r ≡ progressOf (stop outcome) ⌝ }
+fn refused(outcome: Outcome) -> LinesTaken
+    ensures { λ r. ⌜ r ≡ linesTakenOf (stop outcome) ⌝ }
 {
     let job = jobrules::empty_job(0, 0);
-    Progress {
+    LinesTaken {
         outcome,
         stage: START,
         job,
@@ -93,10 +93,10 @@ fn refused(outcome: Outcome) -> Progress
 }
 
 // A line that is accepted: the lines go on.
-fn accepted(stage: usize, job: StoredJob) -> Progress
+fn accepted(stage: usize, job: StoredJob) -> LinesTaken
     ensures { λ r. ⌜ r ≡ onward stage job ⌝ }
 {
-    Progress {
+    LinesTaken {
         outcome: Outcome::Accepted,
         stage,
         job,
@@ -104,8 +104,8 @@ fn accepted(stage: usize, job: StoredJob) -> Progress
 }
 
 // The line `(rows H)` in its place.
-fn take_rows(h: usize, line: usize) -> Progress
-    ensures { λ r. ⌜ r ≡ progressOf (unless (within 1 1024 h) (Outcome.OutOfRange line) (go (sized h))) ⌝ }
+fn take_rows(h: usize, line: usize) -> LinesTaken
+    ensures { λ r. ⌜ r ≡ linesTakenOf (unless (within 1 1024 h) (Outcome.OutOfRange line) (go (sized h))) ⌝ }
 {
     if !jobrules::is_within(1, 1024, h) {
         return refused(Outcome::OutOfRange(line));
@@ -114,8 +114,8 @@ fn take_rows(h: usize, line: usize) -> Progress
 }
 
 // The line `(tracks K)` in its place.
-fn take_tracks(h: usize, k: usize, line: usize) -> Progress
-    ensures { λ r. ⌜ r ≡ progressOf (unless (within 1 128 k) (Outcome.OutOfRange line) (go (filled (emptyBoard (boardOf h k))))) ⌝ }
+fn take_tracks(h: usize, k: usize, line: usize) -> LinesTaken
+    ensures { λ r. ⌜ r ≡ linesTakenOf (unless (within 1 128 k) (Outcome.OutOfRange line) (go (filled (emptyBoard (boardOf h k))))) ⌝ }
 {
     if !jobrules::is_within(1, 128, k) {
         return refused(Outcome::OutOfRange(line));
@@ -124,16 +124,16 @@ fn take_tracks(h: usize, k: usize, line: usize) -> Progress
 }
 
 // A net in its place.
-fn take_net(job: StoredJob, net: Net, line: usize) -> Progress
+fn take_net(job: StoredJob, net: Net, line: usize) -> LinesTaken
     requires { ⌜ Filled job ⌝ }
-    ensures { λ r. ⌜ r ≡ progressOf (addNet line net (jobOf job)) ⌝ }
+    ensures { λ r. ⌜ r ≡ linesTakenOf (addNet line net (jobOf job)) ⌝ }
 {
     let outcome = jobrules::net_outcome(job, net, line);
     if jobrules::number_of(outcome) != 0 {
         return refused(outcome);
     }
     let more = jobrules::with_net(job, net);
-    Progress {
+    LinesTaken {
         outcome,
         stage: FILLED,
         job: more,
@@ -141,16 +141,16 @@ fn take_net(job: StoredJob, net: Net, line: usize) -> Progress
 }
 
 // A block in its place.
-fn take_block(job: StoredJob, block: Block, line: usize) -> Progress
+fn take_block(job: StoredJob, block: Block, line: usize) -> LinesTaken
     requires { ⌜ Filled job ⌝ }
-    ensures { λ r. ⌜ r ≡ progressOf (addBlock line block (jobOf job)) ⌝ }
+    ensures { λ r. ⌜ r ≡ linesTakenOf (addBlock line block (jobOf job)) ⌝ }
 {
     let outcome = jobrules::block_outcome(job, block, line);
     if jobrules::number_of(outcome) != 0 {
         return refused(outcome);
     }
     let more = jobrules::with_block(job, block);
-    Progress {
+    LinesTaken {
         outcome,
         stage: FILLED,
         job: more,
@@ -174,9 +174,9 @@ fn may_stand(stage: usize, form: Form) -> bool
 }
 
 // What a line of a form leads to, below what the lines above hold.
-fn take_form(stage: usize, job: StoredJob, form: Form, line: usize) -> Progress
+fn take_form(stage: usize, job: StoredJob, form: Form, line: usize) -> LinesTaken
     requires { ⌜ Held stage job ⌝ }
-    ensures { λ r. ⌜ r ≡ progressOf (step line (stateOf stage job) form) ⌝ }
+    ensures { λ r. ⌜ r ≡ linesTakenOf (step line (stateOf stage job) form) ⌝ }
 {
     if !may_stand(stage, form) {
         return refused(Outcome::NotOfForm(line));

@@ -15,7 +15,7 @@ use Rattle.board.specs.Job.{Job}
 use Rattle.board.specs.Placement.{Placement}
 use Rattle.board.specs.Rival.{Rival}
 use Rattle.board.specs.Unbeaten.{FilledTrack, numbers, numbersOn}
-use Rattle.board.specs.Accepted.{Accepted}
+use Rattle.board.specs.Accepted.{AcceptedJob}
 use Rattle.board.proofs.SameNumber.{same-number}
 use Rattle.board.specs.Tests.{isOn}
 use Rattle.packing.specs.Walk.{wiresOf}
@@ -151,7 +151,7 @@ rise-without on (x ∷ xs) r =
     (λ e. rw e (Each-mapped (λ n. n .number) (λ k. x .number < k) (without on xs) (all-without (λ n. x .number < n .number) on xs (r .0)), rise-without on xs (r .1)))
 
 -- ---- the theorem
-pub route-sound : (job : Job) → Accepted job → Sound job (routeText job)
+pub route-sound : (job : Job) → AcceptedJob job → Sound job (routeText job)
 unfolding routeText routeLayout lineNumbers planOf looseOf isOn
 route-sound job a =
     let rise = a .numbers-rise in

@@ -13,7 +13,7 @@ use Rattle.board.specs.Job.{Job}
 use Rattle.board.specs.Placement.{Placement, shortestAt}
 use Rattle.board.specs.Rival.{Rival, rivalSum}
 use Rattle.board.specs.Unbeaten.{FilledTrack, emptyTrack, numbers, numbersOn, Optimal}
-use Rattle.board.specs.Accepted.{Accepted}
+use Rattle.board.specs.Accepted.{AcceptedJob}
 use Rattle.packing.specs.Walk.{wiresOf}
 use Rattle.packing.proofs.ByRow.{best-largest}
 use Rattle.planning.specs.Plan.{filledTrack, planFrom, planOf}
@@ -80,7 +80,7 @@ plan-shortest job allowed (suc k) t on zero = best-largest job on t allowed 1 (o
 plan-shortest job allowed (suc k) t on (suc i) = plan-shortest job allowed k (suc t) (on ++ numbers (wiresOf job on t)) i
 
 -- ---- the theorems
-module _ (job : Job) (a : Accepted job) where
+module _ (job : Job) (a : AcceptedJob job) where
   route-at : (i : ℕ) → i < job .board .tracks → getD (routeLayout job .tracks) i noTrack ≡ drawnTrack job (suc i) (getD (planOf job) i emptyTrack)
   unfolding routeLayout
   route-at i h =

@@ -1,7 +1,5 @@
 -- The text that route writes for document 01's worked board, byte for byte. Assumes nothing.
 use Prim.Native.Nat.{ℕ}
-use Prim.Native.Char.{code}
-use Prim.Native.String as S
 use mathlib.Core.Path.{_≡_, refl, ap, _∙_}
 use mathlib.Core.List.{List, [], _∷_}
 use Rattle.lists.specs.Lists.{anyOf, allOf, firstOf}
@@ -16,15 +14,11 @@ use Rattle.packing.specs.Best.{sumWith, bestAt, table, bestLast, best}
 use Rattle.packing.specs.Walk.{reaches, choice, walk, walkFrom, wiresOf}
 use Rattle.planning.specs.Plan.{filledTrack, planFrom, planOf}
 use Rattle.planning.specs.Loose.{without, looseOf}
+use Rattle.text.specs.Bytes.{bytes}
 use Rattle.text.specs.Digits.{digitsIn, digits}
 use Rattle.layout.specs.LayoutText.{pointsThen, lineText, linesText, wiresThen, tracksThen, looseThen, layoutLines, layoutText}
 use Rattle.layout.specs.Drawing.{viaColumn, wireColumn, samePoint, distinctFrom, nearRow, farRow, corners, pointsOn, wireOf}
 use Rattle.routing.specs.Route.{drawnTracks, routeLayout, routeText}
-
--- the bytes of a text of ASCII characters
-abbrev bytes : S.String → List ℕ
-bytes S.[] = []
-bytes (S._∷_ c s) = code c ∷ bytes s
 
 -- the text of a job. To unfold this is to unfold all that it computes with
 unfoldable written : Job → List ℕ

@@ -10,7 +10,7 @@ use Rattle.lists.proofs.Laws.{Each-map}
 use Rattle.board.specs.declared.Net.{Net}
 use Rattle.board.specs.Job.{Job}
 use Rattle.board.specs.Rival.{worthSum}
-use Rattle.board.specs.Accepted.{Accepted}
+use Rattle.board.specs.Accepted.{AcceptedJob}
 use Rattle.layout.specs.Tree.{DrawnTrack}
 use Rattle.sound.specs.Wires.{worthOf, sumOver, wireNumbers, trackNumbers, lineNumbers, wiresSum}
 use Rattle.sound.specs.Sound.{SoundTracks, Sound}
@@ -39,7 +39,7 @@ rise-distinct [] r = tt
 rise-distinct (n ∷ ns) r =
     (Each-mapped (λ m. m .number) (λ k. n .number ≡ k → ⊥) ns (Each-map ns (λ m l e. omega (arith, l, e)) (r .0)), rise-distinct ns (r .1))
 
-module _ (job : Job) (a : Accepted job) (text : List ℕ) (s : Sound job text) where
+module _ (job : Job) (a : AcceptedJob job) (text : List ℕ) (s : Sound job text) where
   -- a sum over all lines is one over all nets
   pub lines-nets : (f : ℕ → ℕ) → sumOver f (lineNumbers (s .layout)) ≡ sumOver f (map (λ n. n .number) (job .nets))
   lines-nets f =

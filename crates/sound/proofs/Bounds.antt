@@ -17,7 +17,7 @@ use Rattle.board.specs.Length.{width}
 use Rattle.board.specs.Job.{Job}
 use Rattle.board.specs.Placement.{Placement, bottom}
 use Rattle.board.specs.Rival.{worthSum}
-use Rattle.board.specs.Accepted.{Accepted}
+use Rattle.board.specs.Accepted.{AcceptedJob}
 use Rattle.board.proofs.ShortestShape.{worth-needed}
 use Rattle.text.specs.Digits.{digits}
 use Rattle.text.proofs.Numbers.{length-digits}
@@ -173,7 +173,7 @@ distinct-length p (q ∷ qs) =
     let h = distinct-length q qs in
     by-test (samePoint p q) (λ e. rw e (omega arith)) (λ e. rw e (omega arith))
 
-module _ (job : Job) (a : Accepted job) where
+module _ (job : Job) (a : AcceptedJob job) where
   column-bounds : (t : ℕ) → t ≤ job .board .tracks → (viaColumn t < 1000) × (wireColumn t < 1000) × (width (job .board) < 1000)
   unfolding viaColumn wireColumn width
   column-bounds t h = let k = a .board-range .tracks-range in omega arith

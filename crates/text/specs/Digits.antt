@@ -32,6 +32,6 @@ unfoldable pub number : ℕ → List ℕ → Option ℕ
 number most w = cond (leb 1 (length w) && leb (length w) most && allOf isDigit w) (some (valueFrom 0 w)) none
 
 -- the same as the answer of the code
-unfoldable pub numberOf : Option ℕ → Number
-numberOf none = Bad
-numberOf (some n) = Value n
+unfoldable pub asNumber : Option ℕ → Number
+asNumber none = Bad
+asNumber (some n) = Value n

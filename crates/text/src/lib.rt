@@ -3,7 +3,7 @@ ghost use mathlib.Core.Path.{_≡_};
 ghost use mathlib.Core.List.{_∷_};
 ghost use Prim.Native.Nat.{_+_, _≤_};
 ghost use lib.ListN.{length};
-ghost use Rattle.text.specs.Digits.{digits, number, numberOf};
+ghost use Rattle.text.specs.Digits.{digits, number, asNumber};
 ghost use Rattle.text.specs.Written.{Written, WrittenAt};
 
 // What a word says as a number: its value, or that it is none.
@@ -68,7 +68,7 @@ pub fn put_spaced(out: &mut [u8], at: usize, n: usize) -> usize
 // The number that s says in one to `most` digits.
 pub fn read_number(s: &[u8], most: usize) -> Number
     requires { ⌜ most ≤ 6 ⌝ }
-    ensures { λ r. ⌜ r ≡ numberOf (number most (now (s .entry))) ⌝ }
+    ensures { λ r. ⌜ r ≡ asNumber (number most (now (s .entry))) ⌝ }
 {
     if s.len() == 0 {
         return Number::Bad;

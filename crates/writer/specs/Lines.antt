@@ -57,16 +57,16 @@ abbrev pub stretchedPath : ℕ → ℕ → ℕ → ℕ → ℕ → ℕ → List 
 stretchedPath c w l r u v = at c l ∷ at c u ∷ at (c + 1) u ∷ at (c + 1) v ∷ at c v ∷ at c r ∷ at w r ∷ []
 
 -- the placement that is drawn
-abbrev pub placed : Net → Shape → Row → Placement
-placed net shape top = record { net = net; shape = shape; top = top .0 }
+abbrev pub placementOf : Net → Shape → Row → Placement
+placementOf net shape top = record { net = net; shape = shape; top = top .0 }
 
 -- the points of a placement on a track, and the line of its wire
 abbrev pub pointsText : Board → Track → Net → Shape → Row → List ℕ
-pointsText board track net shape top = pinText (net .left .0) (corners board (track .0) (placed net shape top) shape)
+pointsText board track net shape top = pinText (net .left .0) (corners board (track .0) (placementOf net shape top) shape)
 
 -- the line of the wire
 abbrev pub wireLine : Board → Track → Net → Shape → Row → List ℕ
-wireLine board track net shape top = endedLine (wire (wireOf board (track .0) (placed net shape top)))
+wireLine board track net shape top = endedLine (wire (wireOf board (track .0) (placementOf net shape top)))
 
 -- small enough to be drawn: nothing overflows
 pub record Drawable (board : Board) (track : Track) (net : Net) (shape : Shape) (top : Row) : Type 0 where

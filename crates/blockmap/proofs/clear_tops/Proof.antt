@@ -7,7 +7,7 @@ use mathlib.Core.List.{List}
 use mathlib.Core.Path.{_≡_, refl, sym, _∙_}
 use native.Mathlib.Omega.{arith}
 use lib.ListN.{length, length-set}
-use Rattle.blockmap.specs.Clear.{clearRows, flagTops}
+use Rattle.blockmap.specs.Clear.{allUnset, flagTops}
 use Rattle.blockmap.specs.Bits.{isSet}
 use Rattle.blockmap.proofs.ClearRows.{ClearFrom, clear-none, clear-more, clear-of, blocked-in}
 use Rattle.blockmap.proofs.ClearTops.{flags-none, flags-more, flags-again, flags-all}
@@ -17,7 +17,7 @@ use Rattle.blockmap.proofs.clear_tops.Tie as tie
 
 -- the top is clear
 abbrev Test : List ℕ → ℕ → ℕ → Bool
-Test words rows top = clearRows words top rows
+Test words rows top = allUnset words top rows
 
 abbrev Inv-loop : tie.InvT-loop
 Inv-loop rows flags map start stop known₀ top₀ index end from row₀ known top row = (known ≡ known₀) × (top ≡ top₀) × (top ≤ row) × (row ≤ end) × ClearFrom (map .words) top row
@@ -73,7 +73,7 @@ tops-again c =
     let l = c .before .before .before .before .before .loop in
     let e : l .top ≡ t .top = l .inv .1 in
     let met : isSet (a .t1 .words) (l .row) ≡ true = sym (c .before .is-blocked .ensures) ∙ c .if2 .taken in
-    let spoilt : clearRows (a .t1 .words) (t .top) (a .rows) ≡ false =
+    let spoilt : allUnset (a .t1 .words) (t .top) (a .rows) ≡ false =
     blocked-in (a .t1 .words) (t .top) (a .rows) (l .row) (omega arith) (omega arith) met in (
       omega arith,
       omega arith,
@@ -113,7 +113,7 @@ tops-again-2 c =
     let t = c .before .before .before .before .tops in
     let l = c .before .loop in
     let e : l .top ≡ t .top = l .inv .1 in
-    let clear : clearRows (a .t1 .words) (t .top) (a .rows) ≡ true =
+    let clear : allUnset (a .t1 .words) (t .top) (a .rows) ≡ true =
     clear-of (a .t1 .words) (t .top) (a .rows) (λ row h k. l .inv .4 row (omega arith) (omega arith)) in (
       omega arith,
       omega arith,

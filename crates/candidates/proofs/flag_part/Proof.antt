@@ -3,7 +3,7 @@ use Prim.Native.Nat.{ℕ, _+_, _*_, _-_}
 use mathlib.Core.Path.{_∙_}
 use mathlib.Core.List.{List}
 use borrow.Rule.Slice.PartMut.{midOf}
-use Rattle.blockmap.specs.Clear.{clearRows, flagTops}
+use Rattle.blockmap.specs.Clear.{allUnset, flagTops}
 use Rattle.candidates.specs.declared.NetTops.{NetTops}
 use Rattle.candidates.proofs.FlagParts.{part-back, all-clear}
 use borrow.Author.Needs.{needs}
@@ -11,8 +11,8 @@ use Rattle.candidates.proofs.flag_part.Statement.{statement}
 use Rattle.candidates.proofs.flag_part.Tie as tie
 
 -- the flags of the tops
-abbrev Flagged : List ℕ → NetTops → List ℕ → List ℕ
-Flagged words tops = flagTops (λ top. clearRows words top (tops .need)) (tops .first .0) (tops .last .0 + 1 - tops .first .0)
+abbrev FlaggedTops : List ℕ → NetTops → List ℕ → List ℕ
+FlaggedTops words tops = flagTops (λ top. allUnset words top (tops .need)) (tops .first .0) (tops .last .0 + 1 - tops .first .0)
 
 mul-from : tie.Need-mul-from
 mul-from c = search needs
@@ -50,7 +50,7 @@ same-length c = search needs
 returns : tie.Need-returns
 returns c =
     let a = c .before .before .before .before .before .before .args in
-    part-back (a .i) (Flagged (a .map .words) (a .tops)) (a .flags .now) (c .before .before .clear-tops .last .1 .1 .1 .1 .0) (c .before .before .clear-tops .ensures)
+    part-back (a .i) (FlaggedTops (a .map .words) (a .tops)) (a .flags .now) (c .before .before .clear-tops .last .1 .1 .1 .1 .0) (c .before .before .clear-tops .ensures)
 
 same-length-2 : tie.Need-same-length-2
 same-length-2 c = search needs
@@ -61,7 +61,7 @@ returns-2 c =
     let a = s .args in
     let lent = midOf (a .i * 1024) (a .i * 1024 + 1024 - a .i * 1024) (a .flags .now) in
     let none = s .pre .0 (c .before .before .before .before .if1 .left) in
-    part-back (a .i) (Flagged (a .map .words) (a .tops)) (a .flags .now) (c .before .before .all-tops .last .1 .1 .0)
+    part-back (a .i) (FlaggedTops (a .map .words) (a .tops)) (a .flags .now) (c .before .before .all-tops .last .1 .1 .0)
     (c .before .before .all-tops .ensures ∙ all-clear (a .map .words) (a .tops .need) (a .tops .first .0) (a .tops .last .0 + 1 - a .tops .first .0) lent none)
 
 pub flag-part-spec : {M : Type 1} → statement M

@@ -1,7 +1,7 @@
 -- `forms::read_arguments` meets its contract. The invariant: of the k numbers the first j are in the array. Assumes nothing.
 use mathlib.Core.Path.{refl, sym, _∙_}
 use Rattle.forms.specs.Arguments.{argumentsOf}
-use Rattle.forms.proofs.Gathering.{Gathered, argued-is, gathered-none, gathered-more, gathered-stopped, gathered-all}
+use Rattle.forms.proofs.Gathering.{ArgumentsRead, argued-is, gathered-none, gathered-more, gathered-stopped, gathered-all}
 use Prim.Native.Nat.{_-_}
 use native.Mathlib.Omega.{arith}
 use borrow.Author.Needs.{needs}
@@ -9,7 +9,7 @@ use Rattle.forms.proofs.read_arguments.Statement.{statement}
 use Rattle.forms.proofs.read_arguments.Tie as tie
 
 abbrev Inv-loop : tie.InvT-loop
-Inv-loop s at k numbers₀ p₀ j₀ numbers p j = Gathered s at k numbers p j
+Inv-loop s at k numbers₀ p₀ j₀ numbers p j = ArgumentsRead s at k numbers p j
 
 abbrev μ-loop : tie.MeasureT-loop
 μ-loop s at k numbers₀ p₀ j₀ numbers p j = k - j

@@ -1,5 +1,5 @@
 -- `reader::may_stand` meets its contract: one case for each form. Assumes nothing.
-use Rattle.reader.specs.Progress.{mayStand}
+use Rattle.reader.specs.LinesTaken.{mayStand}
 use borrow.Author.Needs.{needs}
 use Rattle.reader.proofs.may_stand.Statement.{statement}
 use Rattle.reader.proofs.may_stand.Tie as tie

@@ -2,7 +2,7 @@
 -- Assumes nothing.
 use mathlib.Core.Path.{sym, ap, _∙_}
 use Rattle.jobfile.specs.Answers.{answerOf}
-use Rattle.reader.proofs.Reading.{Going, going-start, going-ahead, going-within, going-blank, going-more, going-refused, going-over, too-long, not-too-long}
+use Rattle.reader.proofs.Reading.{LinesLeft, left-start, left-ahead, left-within, left-blank, left-more, left-refused, left-over, too-long, not-too-long}
 use Prim.Native.Nat.{_-_}
 use native.Mathlib.Omega.{arith}
 use borrow.Author.Needs.{needs}
@@ -11,7 +11,7 @@ use Rattle.reader.proofs.read.Statement.{statement}
 use Rattle.reader.proofs.read.Tie as tie
 
 abbrev Inv-loop : tie.InvT-loop
-Inv-loop text job₀ stage₀ cursor₀ job stage cursor = Going text stage job cursor
+Inv-loop text job₀ stage₀ cursor₀ job stage cursor = LinesLeft text stage job cursor
 
 abbrev μ-loop : tie.MeasureT-loop
 μ-loop text job₀ stage₀ cursor₀ job stage cursor = length text - cursor .place .at
@@ -26,7 +26,7 @@ start-requires : tie.Need-start-requires Inv-loop μ-loop
 start-requires c κs = search needs
 
 loop-holds : tie.Need-loop-holds Inv-loop μ-loop
-loop-holds c = going-start _ _ _ (c .before .before .empty-job .ensures) (c .start .ensures .0) (c .start .ensures .1)
+loop-holds c = left-start _ _ _ (c .before .before .empty-job .ensures) (c .start .ensures .0) (c .start .ensures .1)
 
 next-requires : tie.Need-next-requires Inv-loop μ-loop
 next-requires c κs = c .loop .inv .counted
@@ -44,10 +44,10 @@ loop-less : tie.Need-loop-less Inv-loop μ-loop
 loop-less c =
     let e = sym (c .before .before .before .before .form .given .1) ∙ c .before .before .before .before .before .before .next .ensures in
     let w = c .before .before .before .before .before .before .before .loop .inv in
-    omega (arith, going-ahead _ _ _ _ w _ _ e, going-within _ _ _ _ w _ _ e)
+    omega (arith, left-ahead _ _ _ _ w _ _ e, left-within _ _ _ _ w _ _ e)
 
 loop-again : tie.Need-loop-again Inv-loop μ-loop
-loop-again c = going-blank _ _ _ _ (c .before .before .before .before .before .before .before .loop .inv) _ _ (sym (c .before .before .before .before .form .given .1) ∙ c .before .before .before .before .before .before .next .ensures) (sym (c .before .is-blank .ensures) ∙ c .if2 .taken)
+loop-again c = left-blank _ _ _ _ (c .before .before .before .before .before .before .before .loop .inv) _ _ (sym (c .before .before .before .before .form .given .1) ∙ c .before .before .before .before .before .before .next .ensures) (sym (c .before .is-blank .ensures) ∙ c .if2 .taken)
 
 take-form-requires : tie.Need-take-form-requires Inv-loop μ-loop
 take-form-requires c κs = c .before .before .before .before .before .before .before .loop .inv .held
@@ -57,7 +57,7 @@ number-of-requires c κs = search needs
 
 returns-2 : tie.Need-returns-2 Inv-loop μ-loop
 returns-2 c =
-    going-refused _ _ _ _ (c .before .before .before .before .before .before .before .before .before .before .before .loop .inv) _ _ (sym (c .before .before .before .before .before .before .before .before .form .given .1) ∙ c .before .before .before .before .before .before .before .before .before .before .next .ensures) _ (c .before .before .before .take-form .ensures)
+    left-refused _ _ _ _ (c .before .before .before .before .before .before .before .before .before .before .before .loop .inv) _ _ (sym (c .before .before .before .before .before .before .before .before .form .given .1) ∙ c .before .before .before .before .before .before .before .before .before .before .next .ensures) _ (c .before .before .before .take-form .ensures)
     (λ z. c .before .if3 .taken (c .before .before .number-of .ensures ∙ z))
     ∙ ap answerOf (not-too-long _ (c .before .before .before .before .before .before .before .before .before .before .before .before .before .if1 .left))
 
@@ -65,11 +65,11 @@ loop-less-2 : tie.Need-loop-less-2 Inv-loop μ-loop
 loop-less-2 c =
     let e = sym (c .before .before .before .before .before .before .before .before .form .given .1) ∙ c .before .before .before .before .before .before .before .before .before .before .next .ensures in
     let w = c .before .before .before .before .before .before .before .before .before .before .before .loop .inv in
-    omega (arith, going-ahead _ _ _ _ w _ _ e, going-within _ _ _ _ w _ _ e)
+    omega (arith, left-ahead _ _ _ _ w _ _ e, left-within _ _ _ _ w _ _ e)
 
 loop-again-2 : tie.Need-loop-again-2 Inv-loop μ-loop
 loop-again-2 c =
-    going-more _ _ _ _ (c .before .before .before .before .before .before .before .before .before .before .before .loop .inv) _ _ (sym (c .before .before .before .before .before .before .before .before .form .given .1) ∙ c .before .before .before .before .before .before .before .before .before .before .next .ensures) _ (c .before .before .before .take-form .ensures)
+    left-more _ _ _ _ (c .before .before .before .before .before .before .before .before .before .before .before .loop .inv) _ _ (sym (c .before .before .before .before .before .before .before .before .form .given .1) ∙ c .before .before .before .before .before .before .before .before .before .before .next .ensures) _ (c .before .before .before .take-form .ensures)
     (sym (c .before .before .number-of .ensures) ∙ c .before .if3 .left)
 
 enum-told : tie.Need-enum-told Inv-loop μ-loop
@@ -84,7 +84,7 @@ finish-requires c κs = c .before .before .before .before .loop .inv .held
 returns-3 : tie.Need-returns-3 Inv-loop μ-loop
 returns-3 c =
     c .finish .ensures
-    ∙ ap answerOf (going-over _ _ _ _ (c .before .before .before .before .before .loop .inv) (sym (c .before .before .enum-told .given .1) ∙ c .before .before .before .before .next .ensures) ∙ not-too-long _ (c .before .before .before .before .before .before .before .if1 .left))
+    ∙ ap answerOf (left-over _ _ _ _ (c .before .before .before .before .before .loop .inv) (sym (c .before .before .enum-told .given .1) ∙ c .before .before .before .before .next .ensures) ∙ not-too-long _ (c .before .before .before .before .before .before .before .if1 .left))
 
 pub read-spec : {M : Type 1} → statement M
 read-spec =

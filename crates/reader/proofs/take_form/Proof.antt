@@ -2,7 +2,7 @@
 use mathlib.Core.Path.{_≡_, sym, ap, _∙_}
 use mathlib.Core.Bool.{true}
 use borrow.Author.Tests.{not-true, not-false}
-use Rattle.reader.specs.Progress.{mayStand, progressOf}
+use Rattle.reader.specs.LinesTaken.{mayStand, linesTakenOf}
 use Rattle.reader.proofs.Lines.{wrong-place, rows-place, tracks-place, net-place, block-place, net-filled, block-filled, blank-line, board-line, close-line, other-line}
 use borrow.Author.Needs.{needs}
 use Rattle.reader.proofs.take_form.Statement.{statement}
@@ -15,7 +15,7 @@ refused-requires : tie.Need-refused-requires
 refused-requires c κs = search needs
 
 returns : tie.Need-returns
-returns c = c .refused .ensures ∙ ap progressOf (wrong-place _ _ _ _ (sym (c .before .before .may-stand .ensures) ∙ not-true _ (c .before .if1 .taken)))
+returns c = c .refused .ensures ∙ ap linesTakenOf (wrong-place _ _ _ _ (sym (c .before .before .may-stand .ensures) ∙ not-true _ (c .before .if1 .taken)))
 
 in-place : (c : tie.Else1) → mayStand (c .before .before .args .stage) (c .before .before .args .form) ≡ true
 in-place c = sym (c .before .may-stand .ensures) ∙ not-false _ (c .if1 .left)
@@ -75,16 +75,16 @@ returns-3 : tie.Need-returns-3
 returns-3 c = c .accepted2 .ensures ∙ board-line _ _ _ _ (c .before .before .before .before .before .pre) (c .before .enum-told2 .given .1) (in-place (c .before .before .before))
 
 returns-4 : tie.Need-returns-4
-returns-4 c = c .take-rows .ensures ∙ ap progressOf (rows-place _ _ _ _ _ (c .before .before .form .given .1) (in-place (c .before .before .before .before)))
+returns-4 c = c .take-rows .ensures ∙ ap linesTakenOf (rows-place _ _ _ _ _ (c .before .before .form .given .1) (in-place (c .before .before .before .before)))
 
 returns-5 : tie.Need-returns-5
-returns-5 c = c .take-tracks .ensures ∙ ap progressOf (tracks-place _ _ _ _ _ (c .before .before .form2 .given .1) (in-place (c .before .before .before .before)))
+returns-5 c = c .take-tracks .ensures ∙ ap linesTakenOf (tracks-place _ _ _ _ _ (c .before .before .form2 .given .1) (in-place (c .before .before .before .before)))
 
 returns-6 : tie.Need-returns-6
-returns-6 c = c .take-net .ensures ∙ ap progressOf (net-place _ _ _ _ _ _ _ _ _ (c .before .before .form3 .given .1) (in-place (c .before .before .before .before)))
+returns-6 c = c .take-net .ensures ∙ ap linesTakenOf (net-place _ _ _ _ _ _ _ _ _ (c .before .before .form3 .given .1) (in-place (c .before .before .before .before)))
 
 returns-7 : tie.Need-returns-7
-returns-7 c = c .take-block .ensures ∙ ap progressOf (block-place _ _ _ _ _ _ _ (c .before .before .form4 .given .1) (in-place (c .before .before .before .before)))
+returns-7 c = c .take-block .ensures ∙ ap linesTakenOf (block-place _ _ _ _ _ _ _ (c .before .before .form4 .given .1) (in-place (c .before .before .before .before)))
 
 returns-8 : tie.Need-returns-8
 returns-8 c = c .accepted3 .ensures ∙ close-line _ _ _ _ (c .before .before .before .before .before .pre) (c .before .enum-told3 .given .1) (in-place (c .before .before .before))

@@ -2,7 +2,7 @@
 use mathlib.Core.Path.{sym, _∙_}
 use borrow.Author.Tests.{not-true, not-false}
 use Rattle.jobfile.specs.Read.{unless}
-use Rattle.reader.specs.Progress.{progressOf}
+use Rattle.reader.specs.LinesTaken.{linesTakenOf}
 use borrow.Author.Needs.{needs}
 use Rattle.reader.proofs.take_rows.Statement.{statement}
 use Rattle.reader.proofs.take_rows.Tie as tie
@@ -24,7 +24,7 @@ accepted-requires : tie.Need-accepted-requires
 accepted-requires c κs = search needs
 
 returns-2 : tie.Need-returns-2
-unfolding unless progressOf
+unfolding unless linesTakenOf
 returns-2 c =
     c .accepted .ensures
     ∙ (rw (sym (c .before .before .before .is-within .ensures) ∙ not-false _ (c .before .before .if1 .left), c .before .empty-job .ensures))

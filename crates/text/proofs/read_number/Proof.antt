@@ -4,7 +4,7 @@ use Prim.Native.Nat.{_-_}
 use native.Mathlib.Omega.{arith}
 use lib.ListN.{length}
 use denote.Ref.{now}
-use Rattle.text.specs.Digits.{numberOf}
+use Rattle.text.specs.Digits.{asNumber}
 use Rattle.text.proofs.Reading.{Sofar, sofar-none, sofar-more, number-below, number-above, number-empty, number-long, number-whole, value-fits}
 use Rattle.text.proofs.read_number.Statement.{statement}
 use Rattle.text.proofs.read_number.Tie as tie
@@ -16,13 +16,13 @@ abbrev μ-loop : tie.MeasureT-loop
 μ-loop s most v₀ i₀ v i = length s - i
 
 returns : tie.Need-returns Inv-loop μ-loop
-unfolding numberOf
+unfolding asNumber
 returns c =
     let a = c .before .args in
     rw (number-empty (a .most) (now (a .s)) (omega arith))
 
 returns-2 : tie.Need-returns-2 Inv-loop μ-loop
-unfolding numberOf
+unfolding asNumber
 returns-2 c =
     let a = c .before .before .args in
     rw (number-long (a .most) (now (a .s)) (omega arith))
@@ -34,11 +34,11 @@ shared-slice-read-b : tie.Need-shared-slice-read-b Inv-loop μ-loop
 shared-slice-read-b c = search needs
 
 returns-3 : tie.Need-returns-3 Inv-loop μ-loop
-unfolding numberOf
+unfolding asNumber
 returns-3 c = rw (number-below _ (c .before .before .before .loop .inv) (omega arith) (omega arith))
 
 returns-4 : tie.Need-returns-4 Inv-loop μ-loop
-unfolding numberOf
+unfolding asNumber
 returns-4 c = rw (number-above _ (c .before .before .before .before .loop .inv) (omega arith) (omega arith))
 
 mul-v : tie.Need-mul-v Inv-loop μ-loop
@@ -60,7 +60,7 @@ loop-again : tie.Need-loop-again Inv-loop μ-loop
 loop-again c = sofar-more (c .before .before .before .before .loop .inv) (omega arith) (omega arith) (omega arith)
 
 returns-5 : tie.Need-returns-5 Inv-loop μ-loop
-unfolding numberOf
+unfolding asNumber
 returns-5 c = rw (number-whole (c .before .before .before .before .args .most) (c .before .loop .inv) (omega arith) (omega arith) (omega arith))
 
 pub read-number-spec : {M : Type 1} → statement M

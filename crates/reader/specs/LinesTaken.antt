@@ -11,7 +11,7 @@ use Rattle.jobfile.specs.declared.Outcome.the-variants.{Accepted}
 use Rattle.jobfile.specs.Read.{State, start, opened, sized, filled, closed, Next, go, stop, boardOf, emptyBoard}
 use Rattle.jobfile.specs.Answers.{noJob}
 use Rattle.jobrules.specs.Rules.{Filled}
-use Rattle.reader.specs.declared.Progress.{Progress}
+use Rattle.reader.specs.declared.LinesTaken.{LinesTaken}
 
 -- the forms that may stand at a stage
 unfoldable pub mayStand : ℕ → Form → Bool
@@ -33,17 +33,17 @@ stateOf (suc (suc (suc zero))) job = filled (jobOf job)
 stateOf (suc (suc (suc (suc stage)))) job = closed (jobOf job)
 
 -- what the code holds where nothing is refused
-abbrev pub onward : ℕ → StoredJob → Progress
+abbrev pub onward : ℕ → StoredJob → LinesTaken
 onward stage job = record { outcome = Accepted; stage = stage; job = job }
 
 -- and behind any line; nothing where the text is refused
-unfoldable pub progressOf : Next → Progress
-progressOf (go start) = onward 0 (storedOf noJob)
-progressOf (go opened) = onward 1 (storedOf noJob)
-progressOf (go (sized h)) = onward 2 (storedOf (emptyBoard (boardOf h 0)))
-progressOf (go (filled job)) = onward 3 (storedOf job)
-progressOf (go (closed job)) = onward 4 (storedOf job)
-progressOf (stop o) = record { outcome = o; stage = 0; job = storedOf noJob }
+unfoldable pub linesTakenOf : Next → LinesTaken
+linesTakenOf (go start) = onward 0 (storedOf noJob)
+linesTakenOf (go opened) = onward 1 (storedOf noJob)
+linesTakenOf (go (sized h)) = onward 2 (storedOf (emptyBoard (boardOf h 0)))
+linesTakenOf (go (filled job)) = onward 3 (storedOf job)
+linesTakenOf (go (closed job)) = onward 4 (storedOf job)
+linesTakenOf (stop o) = record { outcome = o; stage = 0; job = storedOf noJob }
 
 -- the size in range, as far as it is known at a stage
 abbrev pub FilledAt : ℕ → StoredJob → Type 0
@@ -54,5 +54,5 @@ FilledAt (suc (suc (suc stage))) job = Filled job
 
 -- a stage and a job by value that the code can hold
 pub record Held (stage : ℕ) (job : StoredJob) : Type 0 where
-  pub value : progressOf (go (stateOf stage job)) ≡ onward stage job
+  pub value : linesTakenOf (go (stateOf stage job)) ≡ onward stage job
   pub ranges : FilledAt stage job

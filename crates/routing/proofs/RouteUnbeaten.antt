@@ -1,4 +1,4 @@
--- Demand 3 on the bytes that route writes; its wires are drawn at their shortest allowed lengths; the text is short. Assumes nothing.
+-- Demands 2 and 3 on the bytes that route writes. Assumes nothing.
 use Prim.Native.Nat.{ℕ, zero, suc, _+_, _≤_, _<_}
 use mathlib.Core.Path.{_≡_, refl, sym, ap, ap₂, _∙_}
 use mathlib.Core.Option.{some}
@@ -8,9 +8,10 @@ use lib.ListN.{length, getD, take}
 use Rattle.lists.specs.Lists.{Each, EachPair}
 use Rattle.lists.proofs.Laws.{Each-map, Each-both}
 use Rattle.board.specs.declared.Net.{Net}
-use Rattle.board.specs.Length.{Allowed, shortest}
+use Rattle.board.specs.Length.{lengthOf, Allowed, shortest}
 use Rattle.board.specs.Job.{Job}
-use Rattle.board.specs.Placement.{Placement, shortestAt}
+use Rattle.board.specs.Placement.{Placement, Legal}
+use Rattle.board.proofs.ShortestShape.{shortest-least}
 use Rattle.board.specs.Rival.{Rival, rivalSum}
 use Rattle.board.specs.Unbeaten.{FilledTrack, emptyTrack, numbers, numbersOn, Optimal}
 use Rattle.board.specs.Accepted.{AcceptedJob}
@@ -18,17 +19,19 @@ use Rattle.packing.specs.Walk.{wiresOf}
 use Rattle.packing.proofs.ByRow.{best-largest}
 use Rattle.planning.specs.Plan.{filledTrack, planFrom, planOf}
 use Rattle.planning.proofs.PlanUnbeaten.{all-allowed, plan-unbeaten}
-use Rattle.layout.specs.Tree.{Wire, DrawnTrack}
+use Rattle.layout.specs.Tree.{DrawnTrack}
 use Rattle.layout.specs.ReadBack.{readLayout}
-use Rattle.layout.specs.Drawing.{wireOf}
+use Rattle.layout.specs.Drawing.{wireOf, pointsOn, pathLength}
+use Rattle.layout.specs.DrawnTracks.{drawnTracks, noTrack}
+use Rattle.layout.proofs.DrawnLength.{drawn-length-of}
 use Rattle.layout.proofs.RoundTrip.{read-layout, layout-text-injective}
 use Rattle.sound.specs.Wires.{trackNumbers, wiresSum}
 use Rattle.sound.specs.Sound.{Sound}
-use Rattle.sound.specs.UnbeatenText.{noTrack, OptimalTrack, UnbeatenText}
+use Rattle.sound.specs.Promises.{ShortestWire, ShortestText, OptimalTrack, UnbeatenText}
 use Rattle.lists.proofs.Joins.{Each-mapped}
 use Rattle.sound.proofs.Nets.{wire-numbers, wires-sum-of}
 use Rattle.sound.proofs.Bounds.{bounded-small, sound-bounded, sound-length}
-use Rattle.routing.specs.Route.{drawnTracks, routeLayout, routeText}
+use Rattle.routing.specs.Route.{routeLayout, routeText}
 use Rattle.routing.proofs.RouteSound.{drawn-length, route-sound}
 
 -- ---- the drawn track at place i
@@ -66,12 +69,20 @@ drawn-optimal job rise earlier t tp o =
     }
 
 -- ---- the wires of a track are drawn at their shortest allowed lengths
-pub record ShortestWire (job : Job) (t : ℕ) (w : Wire) : Type 0 where
-  pub net : Net
-  pub top : ℕ
-  pub of-job : List·Memᴰ net (job .nets)
-  pub allowed : Allowed (job .board) net (shortest (job .board) net)
-  pub drawn : w ≡ wireOf (job .board) t (shortestAt (job .board) net top)
+drawn-shortest : (job : Job) (t : ℕ) (p : Placement) → 1 ≤ t → t ≤ job .board .tracks → List·Memᴰ (p .net) (job .nets) → Legal (job .board) p →
+    p .shape ≡ shortest (job .board) (p .net) → ShortestWire job t (wireOf (job .board) t p)
+unfolding wireOf
+drawn-shortest job t p low high m l s =
+    let e : pathLength (pointsOn (job .board) t p) ≡ lengthOf (job .board) (p .net) (p .shape) = drawn-length-of job t p low high l in
+    let f : lengthOf (job .board) (p .net) (p .shape) ≡ lengthOf (job .board) (p .net) (shortest (job .board) (p .net)) = ap (lengthOf (job .board) (p .net)) s in
+    record {
+      place = p;
+      of-job = m;
+      legal = l;
+      drawn = refl;
+      adds-up = e;
+      least = λ o a. let least = shortest-least (job .board) (p .net) o a in omega arith;
+    }
 
 plan-shortest : (job : Job) → ((n : Net) → List·Memᴰ n (job .nets) → Allowed (job .board) n (shortest (job .board) n)) → (k t : ℕ) (on : List ℕ) (i : ℕ) → Each (λ p. p .shape ≡ shortest (job .board) (p .net)) (getD (planFrom job k t on) i emptyTrack .wires)
 unfolding planFrom filledTrack wiresOf
@@ -98,6 +109,9 @@ module _ (job : Job) (a : AcceptedJob job) where
       let s = route-sound job a in
       sound-read (routeText job) s ∙ ap some (layout-text-injective (s .layout) (routeLayout job) (sym (s .rendered)))
 
+  pub route-length : length (routeText job) ≤ 64000
+  route-length = sound-length job a (routeText job) (route-sound job a)
+
   -- demand 3
   pub route-unbeaten : UnbeatenText job (routeText job)
   unfolding routeLayout
@@ -121,14 +135,18 @@ module _ (job : Job) (a : AcceptedJob job) where
       rw (route-at i h)
       (Each-mapped (wireOf (job .board) (suc i)) (ShortestWire job (suc i)) ws
       (Each-both ws
-      (λ p s w. record {
-        net = p .net;
-        top = p .top;
-        of-job = w .of-job;
-        allowed = all-allowed job a (p .net) (w .of-job);
-        drawn = ap (λ x. wireOf (job .board) (suc i) (record { net = p .net; shape = x; top = p .top })) s;
-      })
+      (λ p s w. drawn-shortest job (suc i) p (omega arith) (omega arith) (w .of-job) (w .legal) s)
       (plan-shortest job (all-allowed job a) (job .board .tracks) 1 [] i) (o .rival .placeable)))
 
-  pub route-length : length (routeText job) ≤ 64000
-  route-length = sound-length job a (routeText job) (route-sound job a)
+  -- demand 2
+  pub route-drawn : ShortestText job (planOf job) (routeText job)
+  unfolding routeText routeLayout
+  route-drawn =
+      record {
+        layout = routeLayout job;
+        rendered = refl;
+        read = route-read;
+        planned = refl;
+        wires-shortest = route-shortest;
+        bytes-most = route-length;
+      }

@@ -1,11 +1,11 @@
 -- What read returns: where the outcome is that the text is accepted, the job by value stands for the job read, which is accepted;
 -- elsewhere it is the first fault of the text. Assumes nothing.
 use Prim.Native.Nat.{ℕ}
-use mathlib.Core.Path.{_≡_, refl, sym, ap}
+use mathlib.Core.Path.{_≡_, refl, sym, ap, _∙_}
 use mathlib.Core.List.{List}
 use native.Mathlib.Omega.{arith}
 use Rattle.board.specs.Accepted.{AcceptedJob}
-use Rattle.board.specs.Stored.{jobOf}
+use Rattle.board.specs.Stored.{jobOf, AcceptedStored}
 use Rattle.jobfile.specs.declared.Answer.{Answer}
 use Rattle.jobfile.specs.declared.Outcome.{Outcome}
 use Rattle.jobfile.specs.declared.Outcome.the-variants as Is
@@ -13,7 +13,7 @@ use Rattle.jobfile.specs.Read.{Read, accepted, refused, readJob}
 use Rattle.jobfile.specs.Answers.{numberOf, answerOf}
 use Rattle.jobfile.specs.Faults.{FirstFault}
 use Rattle.jobfile.proofs.Accepts.{read-accepted}
-use Rattle.board.proofs.StoredJobs.{job-back}
+use Rattle.board.proofs.StoredJobs.{job-back, stored-accepted}
 use Rattle.jobfile.proofs.Refusals.{read-refused, fault-from}
 
 module _ (text : List ℕ) where
@@ -45,3 +45,29 @@ module _ (text : List ℕ) where
 
   pub returned-first : (answer .outcome ≡ Is.Accepted → ⊥) → FirstFault text (answer .outcome)
   returned-first q = read-refused text (answer .outcome) (returned-refused q)
+
+-- what a caller of read holds: its answer, and the number of the outcome
+module _ (text : List ℕ) (a : Answer) (n : ℕ) (e : a ≡ answerOf (readJob text)) (f : n ≡ numberOf (a .outcome)) where
+  accepted-by : (y : Read) → readJob text ≡ y → numberOf (answerOf y .outcome) ≡ 0 → AcceptedStored (answerOf y .job) × (y ≡ accepted (jobOf (answerOf y .job)))
+  unfolding answerOf
+  accepted-by (accepted job) r z = (stored-accepted job (read-accepted text job r), ap accepted (sym (job-back job)))
+  accepted-by (refused o) r z = absurd (omega (arith, fault-from text o (read-refused text o r .fault)))
+
+  refused-by : (y : Read) → (numberOf (answerOf y .outcome) ≡ 0 → ⊥) → y ≡ refused (answerOf y .outcome)
+  unfolding answerOf
+  refused-by (accepted job) h = absurd (h refl)
+  refused-by (refused o) h = refl
+
+  number-is : n ≡ numberOf (answerOf (readJob text) .outcome)
+  number-is = f ∙ ap (λ (x : Answer). numberOf (x .outcome)) e
+
+  -- number 0: the job by value is an accepted one, and the text is read as it
+  pub given-stored : n ≡ 0 → AcceptedStored (a .job)
+  given-stored z = rw e (accepted-by (readJob text) refl (sym number-is ∙ z) .0)
+
+  pub given-read : n ≡ 0 → readJob text ≡ accepted (jobOf (a .job))
+  given-read z = accepted-by (readJob text) refl (sym number-is ∙ z) .1 ∙ ap (λ (x : Answer). accepted (jobOf (x .job))) (sym e)
+
+  -- any other number: the text is refused with that outcome
+  pub given-refused : (n ≡ 0 → ⊥) → readJob text ≡ refused (a .outcome)
+  given-refused h = refused-by (readJob text) (λ z. h (number-is ∙ z)) ∙ ap (λ (x : Answer). refused (x .outcome)) (sym e)

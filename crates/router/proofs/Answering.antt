@@ -1,0 +1,73 @@
+-- What route promises, for each way that it ends: refused as read does, too small a buffer, the layout written. Assumes nothing.
+use Prim.Native.Nat.{ℕ, _≤_, _<_}
+use mathlib.Core.Path.{_≡_, refl, sym, ap, _∙_}
+use mathlib.Core.List.{List, [], _∷_, _++_}
+use native.Mathlib.Omega.{arith}
+use lib.Dec.{leb}
+use lib.ListN.{length, take, drop}
+use borrow.Author.Tests.{le-leb, lt-leb}
+use Rattle.board.specs.declared.StoredJob.{StoredJob}
+use Rattle.board.specs.Job.{Job}
+use Rattle.board.specs.Accepted.{AcceptedJob}
+use Rattle.board.specs.Stored.{jobOf, AcceptedStored}
+use Rattle.text.specs.Written.{Written, over}
+use Rattle.jobfile.specs.declared.Outcome.{Outcome}
+use Rattle.jobfile.specs.Read.{Read, accepted, refused}
+use Rattle.planning.specs.Plan.{planOf}
+use Rattle.sound.specs.Sound.{Sound}
+use Rattle.sound.specs.Promises.{ShortestText, UnbeatenText}
+use Rattle.routing.specs.Route.{routeText}
+use Rattle.routing.proofs.RouteSound.{route-sound}
+use Rattle.routing.proofs.RouteUnbeaten.{route-drawn, route-unbeaten, route-length}
+use Rattle.planner.specs.declared.JobPlan.{JobPlan}
+use Rattle.planner.specs.JobPlans.{jobPlanOf}
+use Rattle.drawer.specs.PlanText.{planText, DrawablePlan}
+use Rattle.drawer.proofs.PlanDrawable.{plan-is-route, plan-drawable}
+use Rattle.router.specs.declared.RouteAnswer.{RouteAnswer}
+use Rattle.router.specs.declared.RouteAnswer.the-variants.{Refused, TooSmall, Routed}
+use Rattle.router.specs.Answers.{routeAnswer, bufferAfter, OfWritten}
+
+-- all that route promises of its answer and of the buffer afterwards
+abbrev pub Promised : Read → List ℕ → RouteAnswer → List ℕ → Type 0
+Promised x before r after =
+    (r ≡ routeAnswer x (length before)) ×
+    ((after ≡ bufferAfter x before) ×
+    (OfWritten (λ j text. ShortestText j (planOf j) text) x r after ×
+    (OfWritten (λ j text. Sound j text) x r after ×
+    OfWritten (λ j text. UnbeatenText j text) x r after)))
+
+pub refused-promised : (x : Read) (o : Outcome) (before : List ℕ) → x ≡ refused o → Promised x before (Refused o) before
+unfolding routeAnswer bufferAfter
+refused-promised x o before e = rw e (refl, (refl, (tt, (tt, tt))))
+
+-- the text at the start of what it stands before
+taken : (text s : List ℕ) → take (length text) (text ++ s) ≡ text
+taken [] s = refl
+taken (b ∷ text) s = ap (λ l. b ∷ l) (taken text s)
+
+module _ (x : Read) (job : Job) (e : x ≡ accepted job) (a : AcceptedJob job) (before : List ℕ) where
+  pub small-promised : (n : ℕ) → n ≡ length (routeText job) → length before < n → Promised x before (TooSmall n) before
+  unfolding routeAnswer bufferAfter
+  small-promised n w l =
+      rw (e, w, lt-leb (length (routeText job)) (length before) (omega arith)) (refl, (refl, (tt, (tt, tt))))
+
+  pub routed-promised : (n : ℕ) (after : List ℕ) → Written (routeText job) before after n → length (routeText job) ≤ length before → Promised x before (Routed n) after
+  unfolding routeAnswer bufferAfter
+  routed-promised n after w l =
+      let t = taken (routeText job) (drop (length (routeText job)) before) in
+      rw (e, w .used, w .bytes, le-leb (length (routeText job)) (length before) l, t)
+      (refl, (refl, (route-drawn job a, (route-sound job a, route-unbeaten job a))))
+
+-- the plan of an accepted job can be drawn, its text is the one that route writes, and that is short
+module _ (stored : StoredJob) (a : AcceptedStored stored) (plan : JobPlan) (p : plan ≡ jobPlanOf (jobOf stored)) where
+  pub plan-text : planText (jobOf stored) plan ≡ routeText (jobOf stored)
+  plan-text = ap (planText (jobOf stored)) p ∙ plan-is-route (jobOf stored) (a .accepted)
+
+  pub plan-can : DrawablePlan (jobOf stored) plan
+  plan-can = rw p (plan-drawable (jobOf stored) (a .accepted))
+
+  pub plan-short : length (planText (jobOf stored) plan) ≤ 64000
+  plan-short = rw plan-text (route-length (jobOf stored) (a .accepted))
+
+  pub plan-written : {before after : List ℕ} {n : ℕ} → Written (planText (jobOf stored) plan) before after n → Written (routeText (jobOf stored)) before after n
+  plan-written w = rw plan-text at w

@@ -1,0 +1,2 @@
+-- Laws of route's answer.
+pub mod Answering

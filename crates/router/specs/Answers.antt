@@ -1,0 +1,45 @@
+-- Document 01, "Operations", route: its answer, the buffer afterwards, and the document's number and values of each answer.
+use Prim.Native.Nat.{ℕ}
+use mathlib.Core.Bool.{cond}
+use mathlib.Core.List.{List}
+use lib.Dec.{leb}
+use lib.ListN.{length, take}
+use Rattle.board.specs.Job.{Job}
+use Rattle.text.specs.Written.{over}
+use Rattle.jobfile.specs.Read.{Read, accepted, refused}
+use Rattle.jobfile.specs.Answers.{numberOf, lineOf}
+use Rattle.routing.specs.Route.{routeText}
+use Rattle.router.specs.declared.RouteAnswer.{RouteAnswer}
+use Rattle.router.specs.declared.RouteAnswer.the-variants.{Refused, TooSmall, Routed}
+
+-- what an answer says in the document's numbers: the number of a refusal, 0 where nothing is refused; the line that it names, 0 where it
+-- names none; and a length, that of the layout written, or the one needed
+pub record RouteValues : Type 0 where
+  pub number : ℕ
+  pub line : ℕ
+  pub bytes : ℕ
+
+-- the number and values of each answer
+abbrev pub routeValues : RouteAnswer → RouteValues
+routeValues (Refused o) = record { number = numberOf o; line = lineOf o; bytes = 0 }
+routeValues (TooSmall n) = record { number = 10; line = 0; bytes = n }
+routeValues (Routed n) = record { number = 0; line = 0; bytes = n }
+
+-- the answer, by what the job file is read as and the length of the buffer: refused as read does, then 10 if the layout has more bytes
+-- than the buffer, otherwise the length
+unfoldable pub routeAnswer : Read → ℕ → RouteAnswer
+routeAnswer (refused o) room = Refused o
+routeAnswer (accepted job) room = let n = length (routeText job) in cond (leb n room) (Routed n) (TooSmall n)
+
+-- the buffer afterwards: untouched on any refusal, otherwise the text, and then the bytes that stood beyond it
+unfoldable pub bufferAfter : Read → List ℕ → List ℕ
+bufferAfter (refused o) before = before
+bufferAfter (accepted job) before = let text = routeText job in cond (leb (length text) (length before)) (over text before) before
+
+-- P holds of the job and of the text written: where the job file is accepted and the answer is a length, the first bytes of the buffer,
+-- as many as the answer says
+abbrev pub OfWritten : (Job → List ℕ → Type 0) → Read → RouteAnswer → List ℕ → Type 0
+OfWritten P (accepted job) (Routed n) out = P job (take n out)
+OfWritten P (accepted job) (TooSmall n) out = Unit {0}
+OfWritten P (accepted job) (Refused o) out = Unit {0}
+OfWritten P (refused o) a out = Unit {0}

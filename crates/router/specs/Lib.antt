@@ -1,0 +1,2 @@
+-- What route answers and leaves in the buffer.
+pub mod Answers

@@ -1,0 +1,43 @@
+// Route: a job file becomes the text of a layout in a lent buffer, or one numbered refusal.
+use jobfile::Outcome;
+ghost use mathlib.Core.Path.{_≡_};
+ghost use lib.ListN.{length};
+ghost use Rattle.jobfile.specs.Read.{readJob};
+ghost use Rattle.planning.specs.Plan.{planOf};
+ghost use Rattle.sound.specs.Sound.{Sound};
+ghost use Rattle.sound.specs.Promises.{ShortestText, UnbeatenText};
+ghost use Rattle.router.specs.Answers.{routeAnswer, bufferAfter, OfWritten};
+
+// The answer of route.
+pub enum RouteAnswer {
+    // refused as read does; the buffer is untouched
+    Refused(Outcome),
+    // refusal 10: the layout has more bytes than the buffer, so many; the buffer is untouched
+    TooSmall(usize),
+    // the layout stands at the start of the buffer and has so many bytes; bytes beyond it are kept
+    Routed(usize),
+}
+
+// Routes a job into a buffer. The layout is drawn into a buffer of its own first, which every layout fits, so that its length is known
+// before a byte is written.
+pub fn route(job: &[u8], out: &mut [u8]) -> RouteAnswer
+    ensures { λ r. ⌜ r ≡ routeAnswer (readJob (now (job .entry))) (length (now (out .entry))) ⌝ }
+    ensures { λ r. ⌜ now (out .exit) ≡ bufferAfter (readJob (now (job .entry))) (now (out .entry)) ⌝ }
+    ensures { λ r. ⌜ OfWritten (λ j text. ShortestText j (planOf j) text) (readJob (now (job .entry))) r (now (out .exit)) ⌝ }
+    ensures { λ r. ⌜ OfWritten (λ j text. Sound j text) (readJob (now (job .entry))) r (now (out .exit)) ⌝ }
+    ensures { λ r. ⌜ OfWritten (λ j text. UnbeatenText j text) (readJob (now (job .entry))) r (now (out .exit)) ⌝ }
+{
+    let answer = reader::read(job);
+    let outcome = answer.outcome;
+    if jobrules::number_of(outcome) != 0 {
+        return RouteAnswer::Refused(outcome);
+    }
+    let stored = answer.job;
+    let plan = planner::plan_job(stored);
+    let mut measured = [0u8; 64000];
+    let needed = drawer::draw(stored, plan, &mut measured);
+    if out.len() < needed {
+        return RouteAnswer::TooSmall(needed);
+    }
+    RouteAnswer::Routed(drawer::draw(stored, plan, out))
+}

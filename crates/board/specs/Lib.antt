@@ -2,6 +2,7 @@
 pub mod Length
 pub mod Job
 pub mod Placement
+pub mod Tried
 pub mod Precedence
 pub mod Rival
 pub mod Unbeaten

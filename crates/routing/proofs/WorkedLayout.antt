@@ -22,11 +22,11 @@ use Rattle.layout.specs.Drawing.{viaColumn, wireColumn, samePoint, distinctFrom
 use Rattle.routing.specs.Route.{routeLayout, routeText}
 
 -- the text of a job. To unfold this is to unfold all that it computes with
-unfoldable written : Job → List ℕ
+unfoldable pub computedText : Job → List ℕ
 unfolding routeText routeLayout drawnTracks layoutText layoutLines linesText tracksThen wiresThen looseThen lineText pointsThen digits digitsIn wireOf pointsOn corners distinctFrom samePoint nearRow farRow viaColumn wireColumn looseOf without numbersOn planOf planFrom filledTrack wiresOf walkFrom walk choice reaches best bestLast table bestAt fitsAt sumWith firstTop lastTop covered isEligible isReady isBefore isOn clearRows blocked closes worth needed shortest plainLength span upper lower width anyOf allOf firstOf
-written job = routeText job
+computedText job = routeText job
 
 pub worked-text : routeText workedJob ≡ bytes
     "(layout\n (track 1 9)\n (wire 1 (0 2) (1 2) (1 4) (5 4))\n (wire 2 (0 6) (1 6) (1 5) (2 5) (2 8) (1 8) (5 8))\n (wire 3 (0 9) (1 9) (1 10) (5 10))\n (track 2 2)\n (wire 4 (0 3) (3 3) (3 2) (5 2))\n (loose 5)\n)\n"
-unfolding written
+unfolding computedText
 worked-text = refl

@@ -166,3 +166,8 @@ module _ (text : List ℕ) (a : Answer) (n : ℕ) (e : a ≡ answerOf (readJob t
     pub report-refused : {s t : List ℕ} {r : ℕ} → (n ≡ 0 → ⊥) → Written (refusedText n l) s t r → Written (reportText (readJob text)) s t r
     report-refused z w =
         rw (← refused-report (readJob text) (λ q. z (same-number ∙ q)), ← same-number, ← same-line) w
+
+-- so is that of a refusal by itself
+pub refused-short : (text : List ℕ) (o : Outcome) → readJob text ≡ refused o → length (refusedText (numberOf o) (lineOf o)) ≤ 32
+unfolding Bounded
+refused-short text o e = refused-room o (rw e at (read-bounded text))

@@ -6,7 +6,7 @@ ghost use Rattle.jobfile.specs.Read.{readJob};
 ghost use Rattle.planning.specs.Plan.{planOf};
 ghost use Rattle.sound.specs.Sound.{Sound};
 ghost use Rattle.sound.specs.Promises.{ShortestText, UnbeatenText};
-ghost use Rattle.router.specs.Answers.{routeAnswer, bufferAfter, OfWritten};
+ghost use Rattle.router.specs.Answers.{routeValues, routeAnswer, bufferAfter, OfWritten};
 
 // The answer of route.
 pub enum RouteAnswer {
@@ -16,6 +16,39 @@ pub enum RouteAnswer {
     TooSmall(usize),
     // the layout stands at the start of the buffer and has so many bytes; bytes beyond it are kept
     Routed(usize),
+}
+
+// The number of a refusal; 0 where nothing is refused.
+pub fn answer_number(answer: RouteAnswer) -> usize
+    ensures { λ r. ⌜ r ≡ routeValues answer .number ⌝ }
+{
+    match answer {
+        RouteAnswer::Refused(outcome) => jobrules::number_of(outcome),
+        RouteAnswer::TooSmall(_) => 10,
+        RouteAnswer::Routed(_) => 0,
+    }
+}
+
+// The line that a refusal names; 0 where it names none.
+pub fn answer_line(answer: RouteAnswer) -> usize
+    ensures { λ r. ⌜ r ≡ routeValues answer .line ⌝ }
+{
+    match answer {
+        RouteAnswer::Refused(outcome) => jobrules::line_of(outcome),
+        RouteAnswer::TooSmall(_) => 0,
+        RouteAnswer::Routed(_) => 0,
+    }
+}
+
+// The length of the layout: written, or needed.
+pub fn answer_bytes(answer: RouteAnswer) -> usize
+    ensures { λ r. ⌜ r ≡ routeValues answer .bytes ⌝ }
+{
+    match answer {
+        RouteAnswer::Refused(_) => 0,
+        RouteAnswer::TooSmall(needed) => needed,
+        RouteAnswer::Routed(written) => written,
+    }
 }
 
 // Routes a job into a buffer. The layout is drawn into a buffer of its own first, which every layout fits, so that its length is known

@@ -5,10 +5,11 @@ use mathlib.Core.List.{List}
 use native.Mathlib.Omega.{arith}
 use mathlib.Core.Bool.{true}
 use lib.Dec.{leb}
-use lib.ListN.{length}
+use lib.ListN.{length, replicate, length-replicate}
 use borrow.Author.Tests.{le-leb}
 use Rattle.board.specs.Job.{Job}
 use Rattle.text.specs.Written.{Written, over}
+use Rattle.text.proofs.Writing.{kept}
 use Rattle.jobfile.specs.Read.{Read, accepted, refused, readJob}
 use Rattle.jobfile.specs.Answers.{numberOf, lineOf}
 use Rattle.jobfile.proofs.Accepts.{read-accepted}
@@ -61,3 +62,15 @@ module _ (before : List ℕ) (room : length before ≡ 64000) where
           let x = refused-from text (readJob text) refl (λ q. z (number-is ∙ q)) in
           let t : refusedText n l ≡ printedText (readJob text) = (rw (number-is, h, e)) ∙ x .1 .1 in
           record { used = w .used ∙ ap length t; bytes = w .bytes ∙ ap₂ over t (f ∙ x .1 .0) }
+
+-- what is printed stands within its bytes
+printed-short : (text : List ℕ) (y : Read) → readJob text ≡ y → length (printedText y) ≤ 64000
+unfolding printedText
+printed-short text (accepted job) e = route-length job (read-accepted text job e)
+printed-short text (refused o) e = omega (arith, refused-short text o e)
+
+pub printed-within : (text : List ℕ) {t : List ℕ} {r : ℕ} → Written (printedText (readJob text)) (replicate 64000 0) t r → r ≤ length t
+printed-within text w =
+    let h = printed-short text (readJob text) refl in
+    let e = length-replicate {A = ℕ} 64000 0 in
+    omega (arith, w .used, kept w (omega arith))

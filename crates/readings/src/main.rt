@@ -1,33 +1,15 @@
 // Reads texts on standard input, each ended by byte 255, and prints for each what it is read as, on a line of its own.
 use libc::STDIN_FILENO;
 use libc::STDOUT_FILENO;
-ghost use mathlib.Core.Path.{_≡_};
 ghost use Prim.Native.Nat.{_+_, _≤_, _<_};
 ghost use lib.ListN.{length};
-ghost use Rattle.lines.specs.Places.{scan};
-ghost use Rattle.readings.specs.Texts.{endsText};
-
-// The place of the byte that ends the text from a place on, or the end of the input.
-fn text_end(s: &[u8], from: usize) -> usize
-    requires { ⌜ from ≤ length (now s) ⌝ }
-    ensures { λ r. ⌜ (r ≡ scan endsText (now (s .entry)) from) × (from ≤ r) × (r ≤ length (now (s .entry))) ⌝ }
-{
-    let mut i = from;
-    while i < s.len() {
-        if s[i] == 255 {
-            return i;
-        }
-        i += 1;
-    }
-    i
-}
 
 // Prints what the text at a place is read as, and returns the place of the next text.
 fn next_reading(s: &[u8], from: usize) -> usize
     requires { ⌜ from < length (now s) ⌝ }
     ensures { λ r. ⌜ (from < r) × (r ≤ length (now (s .entry)) + 1) ⌝ }
 {
-    let to = text_end(s, from);
+    let to = texts::text_end(s, from);
     let mut line = [0u8; 32];
     let used = reader::report(&s[from..to], &mut line);
     io::write_all(STDOUT_FILENO, &line[..used]);

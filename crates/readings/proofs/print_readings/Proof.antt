@@ -1,3 +1,4 @@
+-- `readings::print_readings` meets its contract: the place moves on. Assumes nothing.
 use Prim.Native.Nat.{_≤_, _+_, _-_}
 use borrow.Author.Needs.{needs}
 use lib.ListN.{length}

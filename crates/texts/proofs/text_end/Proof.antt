@@ -1,17 +1,17 @@
--- `readings::text_end` meets its contract. The invariant: a scan from place i on finds the same. Assumes nothing.
+-- `texts::text_end` meets its contract. The invariant: a scan from place i on finds the same. Assumes nothing.
 use mathlib.Core.Path.{sym, _∙_}
 use borrow.Author.Tests.{eq-eqb, ne-eqb}
 use denote.Ref.{now}
 use Rattle.lines.specs.Places.{scan}
 use Rattle.lines.proofs.Scans.{scan-here, scan-later, scan-end}
-use Rattle.readings.specs.Texts.{endsText}
+use Rattle.texts.specs.Ends.{endsText}
 use Prim.Native.Nat.{_≤_, _-_}
 use mathlib.Core.Path.{_≡_}
 use native.Mathlib.Omega.{arith}
 use borrow.Author.Needs.{needs}
 use lib.ListN.{length}
-use Rattle.readings.proofs.text_end.Statement.{statement}
-use Rattle.readings.proofs.text_end.Tie as tie
+use Rattle.texts.proofs.text_end.Statement.{statement}
+use Rattle.texts.proofs.text_end.Tie as tie
 
 abbrev Inv-loop : tie.InvT-loop
 Inv-loop s from i₀ i = (from ≤ i) × (i ≤ length s) × (scan endsText s from ≡ scan endsText s i)

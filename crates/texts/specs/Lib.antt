@@ -1,2 +1,2 @@
 -- How the texts on standard input are kept apart.
-pub mod Texts
+pub mod Ends

@@ -1,0 +1,32 @@
+-- `boards::print_boards` meets its contract: the place moves on. Assumes nothing.
+use Prim.Native.Nat.{_≤_, _+_, _-_}
+use borrow.Author.Needs.{needs}
+use lib.ListN.{length}
+use Rattle.boards.proofs.print_boards.Statement.{statement}
+use Rattle.boards.proofs.print_boards.Tie as tie
+
+abbrev Inv-loop : tie.InvT-loop
+Inv-loop s at₀ at = at ≤ length s + 1
+
+abbrev μ-loop : tie.MeasureT-loop
+μ-loop s at₀ at = length s + 1 - at
+
+loop-holds : tie.Need-loop-holds Inv-loop μ-loop
+loop-holds c = search needs
+
+next-board-requires : tie.Need-next-board-requires Inv-loop μ-loop
+next-board-requires c κs = search needs
+
+loop-less : tie.Need-loop-less Inv-loop μ-loop
+loop-less c = search needs
+
+loop-again : tie.Need-loop-again Inv-loop μ-loop
+loop-again c = search needs
+
+returns : tie.Need-returns Inv-loop μ-loop
+returns c = search needs
+
+pub print-boards-spec : {M : Type 1} → statement M
+print-boards-spec =
+    tie.close
+    (tie.spec Inv-loop μ-loop loop-holds next-board-requires loop-less loop-again returns)

@@ -10,7 +10,7 @@ use Rattle.board.specs.Length.{extra}
 use Rattle.board.specs.Job.{Job}
 use Rattle.layout.specs.Tree.{Layout}
 use Rattle.layout.specs.LayoutText.{layoutText}
-use Rattle.layout.specs.DrawnTracks.{drawnTracks}
+use Rattle.routing.specs.DrawnTracks.{drawnTracks}
 use Rattle.planner.specs.declared.Stand.{Stand}
 use Rattle.planner.specs.declared.Stand.the-variants.{Loose, Wired}
 use Rattle.planner.specs.declared.NetPlan.{NetPlan}

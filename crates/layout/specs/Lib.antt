@@ -4,4 +4,3 @@ pub mod LayoutText
 pub mod ReadBack
 pub mod Drawing
 pub mod Drawn
-pub mod DrawnTracks

@@ -15,7 +15,7 @@ use Rattle.jobfile.specs.declared.Outcome.{Outcome}
 use Rattle.jobfile.specs.Read.{Read, accepted, refused}
 use Rattle.planning.specs.Plan.{planOf}
 use Rattle.sound.specs.Sound.{Sound}
-use Rattle.sound.specs.Promises.{ShortestText, UnbeatenText}
+use Rattle.routing.specs.Promises.{ShortestText, UnbeatenText}
 use Rattle.routing.specs.Route.{routeText}
 use Rattle.routing.proofs.RouteSound.{route-sound}
 use Rattle.routing.proofs.RouteUnbeaten.{route-drawn, route-unbeaten, route-length}

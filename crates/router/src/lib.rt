@@ -5,7 +5,7 @@ ghost use lib.ListN.{length};
 ghost use Rattle.jobfile.specs.Read.{readJob};
 ghost use Rattle.planning.specs.Plan.{planOf};
 ghost use Rattle.sound.specs.Sound.{Sound};
-ghost use Rattle.sound.specs.Promises.{ShortestText, UnbeatenText};
+ghost use Rattle.routing.specs.Promises.{ShortestText, UnbeatenText};
 ghost use Rattle.router.specs.Answers.{routeValues, routeAnswer, bufferAfter, OfWritten};
 
 // The answer of route.

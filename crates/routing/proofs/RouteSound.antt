@@ -28,7 +28,7 @@ use Rattle.sound.specs.Sound.{SoundTracks, Sound}
 use Rattle.lists.proofs.Joins.{Each-each, Each-join, Each-mapped, EachPair-join, EachPair-map}
 use Rattle.sound.proofs.Sums.{Distinct}
 use Rattle.sound.proofs.Nets.{wire-numbers, wires-sum-of}
-use Rattle.layout.specs.DrawnTracks.{drawnTracks}
+use Rattle.routing.specs.DrawnTracks.{drawnTracks}
 use Rattle.routing.specs.Route.{routeLayout, routeText}
 
 abbrev netNumbers : List Net → List ℕ

@@ -22,12 +22,12 @@ use Rattle.planning.proofs.PlanUnbeaten.{all-allowed, plan-unbeaten}
 use Rattle.layout.specs.Tree.{DrawnTrack}
 use Rattle.layout.specs.ReadBack.{readLayout}
 use Rattle.layout.specs.Drawing.{wireOf, pointsOn, pathLength}
-use Rattle.layout.specs.DrawnTracks.{drawnTracks, noTrack}
+use Rattle.routing.specs.DrawnTracks.{drawnTracks, noTrack}
 use Rattle.layout.proofs.DrawnLength.{drawn-length-of}
 use Rattle.layout.proofs.RoundTrip.{read-layout, layout-text-injective}
 use Rattle.sound.specs.Wires.{trackNumbers, wiresSum}
 use Rattle.sound.specs.Sound.{Sound}
-use Rattle.sound.specs.Promises.{ShortestWire, ShortestText, OptimalTrack, UnbeatenText}
+use Rattle.routing.specs.Promises.{ShortestWire, ShortestText, OptimalTrack, UnbeatenText}
 use Rattle.lists.proofs.Joins.{Each-mapped}
 use Rattle.sound.proofs.Nets.{wire-numbers, wires-sum-of}
 use Rattle.sound.proofs.Bounds.{bounded-small, sound-bounded, sound-length}

@@ -17,7 +17,7 @@ use Rattle.planning.specs.Loose.{without, looseOf}
 use Rattle.text.specs.Bytes.{bytes}
 use Rattle.text.specs.Digits.{digitsIn, digits}
 use Rattle.layout.specs.LayoutText.{pointsThen, lineText, linesText, wiresThen, tracksThen, looseThen, layoutLines, layoutText}
-use Rattle.layout.specs.DrawnTracks.{drawnTracks}
+use Rattle.routing.specs.DrawnTracks.{drawnTracks}
 use Rattle.layout.specs.Drawing.{viaColumn, wireColumn, samePoint, distinctFrom, nearRow, farRow, corners, pointsOn, wireOf}
 use Rattle.routing.specs.Route.{routeLayout, routeText}
 

@@ -6,7 +6,7 @@ use Rattle.planning.specs.Plan.{planOf}
 use Rattle.planning.specs.Loose.{looseOf}
 use Rattle.layout.specs.Tree.{Layout}
 use Rattle.layout.specs.LayoutText.{layoutText}
-use Rattle.layout.specs.DrawnTracks.{drawnTracks}
+use Rattle.routing.specs.DrawnTracks.{drawnTracks}
 
 -- the layout of a job: its plan drawn, and its loose nets by rising number
 unfoldable pub routeLayout : Job → Layout

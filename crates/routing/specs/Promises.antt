@@ -15,8 +15,8 @@ use Rattle.layout.specs.Tree.{Wire, DrawnTrack, Layout}
 use Rattle.layout.specs.LayoutText.{layoutText}
 use Rattle.layout.specs.ReadBack.{readLayout}
 use Rattle.layout.specs.Drawing.{wireOf, pathLength}
-use Rattle.layout.specs.DrawnTracks.{drawnTracks, noTrack}
+use Rattle.routing.specs.DrawnTracks.{drawnTracks, noTrack}
 use Rattle.sound.specs.Wires.{RivalWires, wiresSum, trackNumbers}
 
 -- Demand 2
 

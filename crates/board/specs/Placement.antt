@@ -35,7 +35,7 @@ pub record Legal (board : Board) (p : Placement) : Type 0 where
   pub under-lower : lower (p .net) ≤ bottom p
   pub to-last : bottom p ≤ board .rows
 
--- max(1, a − e) and min(a, H − m + 1): the first and the last top row of a net in a shape
+-- max(1, a − e), the first top row of a net in a shape
 unfoldable pub firstTop : Net → Shape → ℕ
 firstTop n s = max 1 (upper n - extra s)
 

@@ -13,9 +13,11 @@ use Rattle.board.specs.Placement.{covered, Legal, firstTop, lastTop, sho
 use Rattle.board.proofs.ShortestShape.{none-allowed, none-below-plain}
 use Rattle.board.proofs.Tops.{legal-in-tops}
 
+-- a board with one track and so many rows
 abbrev pub triedBoard : ℕ → Board
 triedBoard rows = record { rows = rows; tracks = 1 }
 
+-- the net from row 10 to row 14 with these bounds
 abbrev pub triedNet : ℕ → ℕ → Net
 triedNet least most = record { number = 1; left = record { 0 = 10 }; right = record { 0 = 14 }; min = least; max = most }
 

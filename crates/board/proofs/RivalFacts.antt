@@ -25,16 +25,19 @@ use Rattle.board.proofs.RivalTests.Clause.{net-of-job, length-from-min,
 abbrev drawn : Net → Shape → ℕ → Placement
 drawn n s row = record { net = n; shape = s; top = row }
 
--- the worked job with wider bounds: nets 1 and 3 may be longer, and min − D of net 2 is odd
+-- net 1 of the worked job with a max of 13: it may be stretched
 abbrev wide1 : Net
 wide1 = record { number = 1; left = record { 0 = 2 }; right = record { 0 = 4 }; min = 7; max = 13 }
 
+-- net 2 of the worked job with a min of 10, so that min − D is odd
 abbrev odd2 : Net
 odd2 = record { number = 2; left = record { 0 = 6 }; right = record { 0 = 8 }; min = 10; max = 12 }
 
+-- net 3 of the worked job with a max of 10
 abbrev wide3 : Net
 wide3 = record { number = 3; left = record { 0 = 9 }; right = record { 0 = 10 }; min = 6; max = 10 }
 
+-- the worked job with these three nets for its own
 abbrev wideJob : Job
 wideJob = record { board = workedBoard; nets = wide1 ∷ odd2 ∷ wide3 ∷ net4 ∷ net5 ∷ []; blocks = workedBlock ∷ [] }
 
@@ -45,7 +48,7 @@ pub empty-rival : (job : Job) (earlier : List ℕ) (t : ℕ) → Rival job earli
 unfolding rivalSum
 empty-rival job earlier t = (record { placeable = tt; rising = tt; apart = tt }, refl)
 
--- the wires that route writes: (track 1 9), and then (track 2 2)
+-- the wires that route writes on track 1: (track 1 9)
 abbrev track1 : List Placement
 track1 = drawn net1 Plain 2 ∷ drawn net2 (Stretched 1) 5 ∷ drawn net3 Plain 9 ∷ []
 
@@ -53,6 +56,7 @@ pub track1-rival : Rival workedJob [] 1 track1 × (rivalSum workedBoard track1 �
 unfolding brokenClauses rivalSum worth needed shortest
 track1-rival = (rival-exact workedJob [] 1 track1 .0 refl, refl)
 
+-- and on track 2: (track 2 2)
 abbrev track2 : List Placement
 track2 = drawn net4 Plain 2 ∷ []
 
@@ -97,14 +101,16 @@ sum-by-nets board (p ∷ ps) (q ∷ qs) e =
 
 -- ---- placements that break one clause alone
 
--- net 6 is not in the job; nor is a net 1 with another max
+-- a net that is not in the worked job
 abbrev net6 : Net
 net6 = record { number = 6; left = record { 0 = 5 }; right = record { 0 = 7 }; min = 7; max = 7 }
 
+-- net 6 is not in the job
 pub unknown-net : BreaksOnly workedJob [] 1 (drawn net6 Plain 5 ∷ []) net-of-job
 unfolding brokenClauses
 unknown-net = breaks-only workedJob [] 1 _ net-of-job refl
 
+-- nor is a net 1 with another max
 pub changed-net : BreaksOnly workedJob [] 1 (drawn wide1 (Stretched 0) 2 ∷ []) net-of-job
 unfolding brokenClauses
 changed-net = breaks-only workedJob [] 1 _ net-of-job refl

@@ -20,6 +20,7 @@ use Rattle.board.proofs.ExactTests.{of-job-exact, long-exact, short-exa
 
 -- ---- two placements
 
+-- the top row of p is above that of q
 unfoldable pub isRising : Placement → Placement → Bool
 isRising p q = ltb (p .top) (q .top)
 
@@ -53,6 +54,7 @@ apart-exact p q = (
 
 -- ---- the twelve clauses of a rival sequence
 
+-- what must hold of a rival sequence, one clause for each field of `Rival` and of what it is made of
 pub data Clause : Type 0 where
   net-of-job : Clause
   length-from-min : Clause
@@ -82,6 +84,7 @@ passes job earlier t ps preceding-on-earlier-tracks = allOf (λ p. isReady job e
 passes job earlier t ps tops-rise = allPairs isRising ps
 passes job earlier t ps no-shared-row = allPairs isApart ps
 
+-- the twelve clauses, each once
 abbrev pub clauses : List Clause
 clauses =
     net-of-job ∷ length-from-min ∷ length-to-max ∷ top-from-row-one ∷ top-to-upper ∷ bottom-from-lower ∷ bottom-to-last-row ∷

@@ -75,6 +75,7 @@ no-space (b ∷ w) e =
     let h = and-split (not (endsWord b)) (allOf (λ b. not (endsWord b)) w) e in
     rw (neither (isSpace b) (isBracket b) (h .0) .0, no-space w (h .1))
 
+-- what stands between spaces
 split-words : List ℕ → List (List ℕ)
 split-words l = nonEmpty (pieces isSpace l)
 

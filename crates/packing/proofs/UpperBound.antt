@@ -35,9 +35,11 @@ all-below p (q ∷ qs) r a = (
 )
 
 module _ (job : Job) (earlier : List ℕ) (t : ℕ) where
+  -- net n's shortest placement may stand with its top at row j
   abbrev fits : Net → ℕ → Bool
   fits n j = fitsAt job earlier t n j
 
+  -- best of the last k rows
   abbrev Best : ℕ → ℕ
   Best k = bestLast job earlier t k
 

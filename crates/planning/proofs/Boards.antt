@@ -19,15 +19,17 @@ use Rattle.board.specs.Unbeaten.{numbersOn}
 use Rattle.planning.specs.Plan.{filledTrack, planFrom, planOf}
 use Rattle.planning.specs.Loose.{without, looseOf}
 
--- the plan of a job, and the nets that it leaves loose. To unfold these is to unfold all that they compute with
+-- the plan of a job. To unfold this is to unfold all that it computes with
 unfoldable planned : Job → List FilledTrack
 unfolding planOf planFrom filledTrack wiresOf walkFrom walk choice reaches best bestLast table bestAt fitsAt sumWith firstTop lastTop covered isEligible isReady isBefore isOn clearRows blocked closes worth needed shortest plainLength span upper lower width anyOf allOf firstOf
 planned job = planOf job
 
+-- the nets that the plan of a job leaves loose, in the same way
 unfoldable left : Job → List Net
 unfolding looseOf without numbersOn planOf planFrom filledTrack wiresOf walkFrom walk choice reaches best bestLast table bestAt fitsAt sumWith firstTop lastTop covered isEligible isReady isBefore isOn clearRows blocked closes worth needed shortest plainLength span upper lower width anyOf allOf firstOf
 left job = looseOf job (planOf job)
 
+-- a net drawn in a shape, with its uppermost row there
 abbrev wire : Net → Shape → ℕ → Placement
 wire n s r = record { net = n; shape = s; top = r }
 
@@ -43,10 +45,11 @@ pub worked-loose : looseOf workedJob (planOf workedJob) ≡ net5 ∷ []
 unfolding left
 worked-loose = refl
 
--- rows 21, tracks 1, net 10 to 14 with min = max = 23: of its eight tops the walk takes the last, 10
+-- the net from row 10 to row 14 with min = max = 23
 abbrev longNet : Net
 longNet = record { number = 1; left = record { 0 = 10 }; right = record { 0 = 14 }; min = 23; max = 23 }
 
+-- rows 21, tracks 1 and this net: of its eight tops the walk takes the last, 10
 pub long-plan : planOf (record { board = record { rows = 21; tracks = 1 }; nets = longNet ∷ []; blocks = [] }) ≡
     record { sum = 12; wires = wire longNet (Stretched 7) 10 ∷ [] } ∷ []
 unfolding planned

@@ -18,6 +18,10 @@ pub record Placement : Type 0 where
   pub shape : Shape
   pub top : ℕ
 
+-- net n in shape s, with its top at row j
+abbrev pub placementAt : Net → Shape → ℕ → Placement
+placementAt n s j = record { net = n; shape = s; top = j }
+
 -- a shortest placement: net n at its shortest length, with its top at row j
 abbrev pub shortestAt : Board → Net → ℕ → Placement
 shortestAt board n j = record { net = n; shape = shortest board n; top = j }

@@ -17,9 +17,10 @@ use Rattle.board.specs.declared.Net.{Net}
 use Rattle.board.specs.Length.{needed, worth}
 use Rattle.board.specs.Job.{Job}
 use Rattle.board.specs.Placement.{Placement, bottom}
+use Rattle.board.specs.Shrunk.{shrunk}
 use Rattle.board.specs.Rival.{Apart, Rival, rivalSum}
 use Rattle.board.proofs.ShortestShape.{needed-pos}
-use Rattle.board.proofs.Tops.{shortest-bottom, shrink, shrunk}
+use Rattle.board.proofs.Tops.{shortest-bottom, shrink}
 use Rattle.packing.specs.Fits.{fitsAt}
 use Rattle.packing.specs.Best.{sumWith, bestAt, table, bestLast, best}
 use Rattle.packing.proofs.Fitting.{placeable-fits}

@@ -1,17 +1,16 @@
 -- Plans of document 01's boards, computed: the worked board, the board of the long net, and one without nets. Assumes nothing.
-use Prim.Native.Nat.{ℕ}
 use mathlib.Core.Path.{_≡_, refl}
 use mathlib.Core.List.{List, [], _∷_, map}
 use Rattle.lists.specs.Lists.{anyOf, allOf, firstOf}
 use Rattle.board.specs.declared.Net.{Net}
-use Rattle.board.specs.declared.Shape.{Shape}
 use Rattle.board.specs.declared.Shape.the-variants.{Plain, Stretched}
 use Rattle.board.specs.Length.{width, upper, lower, span, plainLength, shortest, needed, worth}
 use Rattle.board.specs.Job.{Job, closes, blocked}
-use Rattle.board.specs.Placement.{Placement, covered, firstTop, lastTop}
+use Rattle.board.specs.Placement.{placementAt, covered, firstTop, lastTop}
 use Rattle.board.specs.Unbeaten.{FilledTrack}
 use Rattle.board.specs.Tests.{clearRows, isOn, isBefore, isReady, isEligible}
-use Rattle.board.proofs.WorkedBoard.{workedJob, net1, net2, net3, net4, net5}
+use Rattle.board.specs.WorkedBoard.{workedJob, net1, net2, net3, net4, net5}
+use Rattle.board.specs.TriedBoards.{triedBoard, triedNet}
 use Rattle.packing.specs.Fits.{fitsAt}
 use Rattle.packing.specs.Best.{sumWith, bestAt, table, bestLast, best}
 use Rattle.packing.specs.Walk.{reaches, choice, walk, walkFrom, wiresOf}
@@ -29,14 +28,10 @@ unfoldable left : Job → List Net
 unfolding looseOf without numbersOn planOf planFrom filledTrack wiresOf walkFrom walk choice reaches best bestLast table bestAt fitsAt sumWith firstTop lastTop covered isEligible isReady isBefore isOn clearRows blocked closes worth needed shortest plainLength span upper lower width anyOf allOf firstOf
 left job = looseOf job (planOf job)
 
--- a net drawn in a shape, with its uppermost row there
-abbrev wire : Net → Shape → ℕ → Placement
-wire n s r = record { net = n; shape = s; top = r }
-
 -- track 1: nets 1, 2 (stretched over row 5) and 3, sum 9; track 2: net 4, sum 2
 pub worked-plan : planOf workedJob ≡
-    record { sum = 9; wires = wire net1 Plain 2 ∷ wire net2 (Stretched 1) 5 ∷ wire net3 Plain 9 ∷ [] } ∷
-    record { sum = 2; wires = wire net4 Plain 2 ∷ [] } ∷ []
+    record { sum = 9; wires = placementAt net1 Plain 2 ∷ placementAt net2 (Stretched 1) 5 ∷ placementAt net3 Plain 9 ∷ [] } ∷
+    record { sum = 2; wires = placementAt net4 Plain 2 ∷ [] } ∷ []
 unfolding planned
 worked-plan = refl
 
@@ -45,13 +40,9 @@ pub worked-loose : looseOf workedJob (planOf workedJob) ≡ net5 ∷ []
 unfolding left
 worked-loose = refl
 
--- the net from row 10 to row 14 with min = max = 23
-abbrev longNet : Net
-longNet = record { number = 1; left = record { 0 = 10 }; right = record { 0 = 14 }; min = 23; max = 23 }
-
--- rows 21, tracks 1 and this net: of its eight tops the walk takes the last, 10
-pub long-plan : planOf (record { board = record { rows = 21; tracks = 1 }; nets = longNet ∷ []; blocks = [] }) ≡
-    record { sum = 12; wires = wire longNet (Stretched 7) 10 ∷ [] } ∷ []
+-- rows 21, tracks 1, net 10 to 14 with min = max = 23: of its eight tops the walk takes the last, 10
+pub long-plan : planOf (record { board = triedBoard 21; nets = triedNet 23 23 ∷ []; blocks = [] }) ≡
+    record { sum = 12; wires = placementAt (triedNet 23 23) (Stretched 7) 10 ∷ [] } ∷ []
 unfolding planned
 long-plan = refl
 

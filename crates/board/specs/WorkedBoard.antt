@@ -1,4 +1,4 @@
--- The worked example of document 01, "Drawing", as a value: its board, nets, block and job. Assumes nothing.
+-- The worked example of document 01, "Drawing", as a value: its board, nets, block and job.
 use mathlib.Core.List.{[], _∷_}
 use Rattle.board.specs.declared.Board.{Board}
 use Rattle.board.specs.declared.Net.{Net}

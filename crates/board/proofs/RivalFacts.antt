@@ -1,16 +1,16 @@
 -- Rival sequences and their sums on the board of document 01's worked example, and for each clause of `Rival` placements that break
 -- it alone. Assumes nothing.
-use Prim.Native.Nat.{ℕ, _+_, _≤_}
+use Prim.Native.Nat.{ℕ, _+_, _≤_, _<_}
 use mathlib.Core.Path.{_≡_, refl, ap, ap₂}
 use mathlib.Core.Bool.{true, false}
-use mathlib.Core.List.{List, [], _∷_, map, List·Memᴰ}
+use mathlib.Core.List.{List, [], _∷_, map, List·Memᴰ, List·Memᴰ·head, List·Memᴰ·tail}
 use native.Mathlib.Omega.{arith}
 use Rattle.lists.specs.Lists.{Each, EachPair, anyOf, allOf}
 use Rattle.lists.proofs.Laws.{Each-both, Each-at}
 use Rattle.board.specs.declared.Board.{Board}
 use Rattle.board.specs.declared.Net.{Net}
 use Rattle.board.specs.declared.Shape.the-variants.{Plain, Stretched}
-use Rattle.board.specs.Length.{upper, lower, shortest, needed, worth}
+use Rattle.board.specs.Length.{width, upper, lower, span, plainLength, lengthOf, Allowed, shortest, needed, worth}
 use Rattle.board.specs.Job.{Job}
 use Rattle.board.specs.Placement.{Placement, placementAt, Legal, bottom}
 use Rattle.board.specs.Precedence.{Precedes}
@@ -43,7 +43,13 @@ pub longer-rival : Rival workedJob [] 1 longer3 × (rivalSum workedBoard longer3
 unfolding brokenClauses rivalSum worth needed shortest
 longer-rival = (rival-exact workedJob [] 1 longer3 .0 refl, refl)
 
--- one that is not ours
+-- net 3 could be shorter there: its shortest shape is allowed, and its length is below the one drawn
+pub longer-than-shortest : List·Memᴰ (placementAt net3 (Stretched 0) 9) longer3 × Allowed workedBoard net3 (shortest workedBoard net3) ×
+    (lengthOf workedBoard net3 (shortest workedBoard net3) < lengthOf workedBoard net3 (Stretched 0))
+unfolding shortest plainLength width span upper lower
+longer-than-shortest = (List·Memᴰ·tail (List·Memᴰ·tail (List·Memᴰ·head refl)), record { long = omega arith; short = omega arith }, omega arith)
+
+-- one that is not ours: planning/proofs/Boards.antt shows that it is not what the plan has
 pub other-top-rival : Rival workedJob [] 1 otherTop × (rivalSum workedBoard otherTop ≡ 7)
 unfolding brokenClauses rivalSum worth needed shortest
 other-top-rival = (rival-exact workedJob [] 1 otherTop .0 refl, refl)

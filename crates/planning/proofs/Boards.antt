@@ -1,20 +1,23 @@
 -- Plans of document 01's boards, computed: the worked board, the board of the long net, and one without nets. Assumes nothing.
-use mathlib.Core.Path.{_≡_, refl}
-use mathlib.Core.List.{List, [], _∷_, map}
+use Prim.Native.Nat.{ℕ}
+use mathlib.Core.Path.{_≡_, refl, ap, _∙_}
+use mathlib.Core.List.{List, [], _∷_}
+use native.Mathlib.Omega.{arith}
+use lib.ListN.{length, getD}
 use Rattle.lists.specs.Lists.{anyOf, allOf, firstOf}
 use Rattle.board.specs.declared.Net.{Net}
 use Rattle.board.specs.declared.Shape.the-variants.{Plain, Stretched}
 use Rattle.board.specs.Length.{width, upper, lower, span, plainLength, shortest, needed, worth}
 use Rattle.board.specs.Job.{Job, closes, blocked}
 use Rattle.board.specs.Placement.{placementAt, covered, firstTop, lastTop}
-use Rattle.board.specs.Unbeaten.{FilledTrack}
+use Rattle.board.specs.Unbeaten.{FilledTrack, emptyTrack, numbersOn}
 use Rattle.board.specs.Tests.{clearRows, isOn, isBefore, isReady, isEligible}
 use Rattle.board.specs.WorkedBoard.{workedJob, net1, net2, net3, net4, net5}
 use Rattle.board.specs.TriedBoards.{triedBoard, triedNet}
+use Rattle.board.specs.RivalExamples.{otherTop}
 use Rattle.packing.specs.Fits.{fitsAt}
 use Rattle.packing.specs.Best.{sumWith, bestAt, table, bestLast, best}
 use Rattle.packing.specs.Walk.{reaches, choice, walk, walkFrom, wiresOf}
-use Rattle.board.specs.Unbeaten.{numbersOn}
 use Rattle.planning.specs.Plan.{filledTrack, planFrom, planOf}
 use Rattle.planning.specs.Loose.{without, looseOf}
 
@@ -34,6 +37,11 @@ pub worked-plan : planOf workedJob ≡
     record { sum = 2; wires = placementAt net4 Plain 2 ∷ [] } ∷ []
 unfolding planned
 worked-plan = refl
+
+-- so the rival sequence that is not ours is not what the plan has on its track, track 1
+pub other-top-not-ours : (otherTop ≡ getD (planOf workedJob) 0 emptyTrack .wires) → ⊥
+other-top-not-ours h =
+    let e : _≡_ {A = ℕ} 2 3 = ap length (h ∙ ap (λ (plan : List FilledTrack). getD plan 0 emptyTrack .wires) worked-plan) in omega arith
 
 -- net 5 is loose
 pub worked-loose : looseOf workedJob (planOf workedJob) ≡ net5 ∷ []

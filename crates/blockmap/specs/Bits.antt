@@ -7,7 +7,7 @@ use lib.ListN.{getD}
 use lib.Dec.{eqb}
 use Rattle.board.specs.Job.{Job, blocked}
 
--- one bit a row, 64 rows to a word: row i + 1 has bit i % 64 of word i / 64. There is no row 0
+-- the bit of a row is set: one bit a row, 64 rows to a word; row i + 1 has bit i % 64 of word i / 64. There is no row 0
 unfoldable pub isSet : List ℕ → ℕ → Bool
 isSet words zero = false
 isSet words (suc i) = eqb (getD words (i / 64) 0 / 2 ^ (i % 64) % 2) 1

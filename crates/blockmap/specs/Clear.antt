@@ -5,12 +5,12 @@ use mathlib.Core.List.{List}
 use lib.ListN.{set}
 use Rattle.blockmap.specs.Bits.{isSet}
 
--- none of the m rows from `top` on is blocked
+-- none of the m rows from `top` on has its bit set in the words
 unfoldable pub allUnset : List ℕ → ℕ → ℕ → Bool
 allUnset words top zero = true
 allUnset words top (suc m) = allUnset words top m && not (isSet words (top + m))
 
--- a test as a byte
+-- a test as a byte: 1 if it passes, 0 if not
 abbrev pub flag : Bool → ℕ
 flag true = 1
 flag false = 0

@@ -9,15 +9,9 @@ use Rattle.board.specs.declared.Shape.{Shape}
 use Rattle.board.specs.declared.Shape.the-variants.{Stretched}
 use Rattle.board.specs.Length.{width, upper, lower, span, plainLength, lengthOf, Allowed, shortest, needed}
 use Rattle.board.specs.Placement.{covered, firstTop, lastTop, shortestAt}
-use Rattle.board.specs.Tried.{Tried}
+use Rattle.board.specs.TriedBoards.{triedBoard, triedNet, Tried}
 use Rattle.board.proofs.ShortestShape.{none-allowed, none-below-plain}
 use Rattle.board.proofs.Tops.{legal-in-tops}
-
-abbrev pub triedBoard : ℕ → Board
-triedBoard rows = record { rows = rows; tracks = 1 }
-
-abbrev pub triedNet : ℕ → ℕ → Net
-triedNet least most = record { number = 1; left = record { 0 = 10 }; right = record { 0 = 14 }; min = least; max = most }
 
 tried : {board : Board} {net : Net} {l e n first last : ℕ} → shortest board net ≡ Stretched e →
     lengthOf board net (shortest board net) ≡ l → (net .min ≤ l) × (l ≤ net .max) → needed board net ≡ n →

@@ -4,7 +4,6 @@ pub mod Tops
 pub mod Lengths
 pub mod SameNumber
 pub mod StoredJobs
-pub mod WorkedBoard
 pub mod ExactTests
 pub mod RivalTests
 pub mod RivalFacts

@@ -1,42 +1,26 @@
 -- Rival sequences and their sums on the board of document 01's worked example, and for each clause of `Rival` placements that break
 -- it alone. Assumes nothing.
-use Prim.Native.Nat.{ℕ, _+_, _≤_}
+use Prim.Native.Nat.{ℕ, _+_, _≤_, _<_}
 use mathlib.Core.Path.{_≡_, refl, ap, ap₂}
 use mathlib.Core.Bool.{true, false}
-use mathlib.Core.List.{List, [], _∷_, map, List·Memᴰ}
+use mathlib.Core.List.{List, [], _∷_, map, List·Memᴰ, List·Memᴰ·head, List·Memᴰ·tail}
 use native.Mathlib.Omega.{arith}
 use Rattle.lists.specs.Lists.{Each, EachPair, anyOf, allOf}
 use Rattle.lists.proofs.Laws.{Each-both, Each-at}
 use Rattle.board.specs.declared.Board.{Board}
 use Rattle.board.specs.declared.Net.{Net}
-use Rattle.board.specs.declared.Shape.{Shape}
 use Rattle.board.specs.declared.Shape.the-variants.{Plain, Stretched}
-use Rattle.board.specs.Length.{upper, lower, shortest, needed, worth}
+use Rattle.board.specs.Length.{width, upper, lower, span, plainLength, lengthOf, Allowed, shortest, needed, worth}
 use Rattle.board.specs.Job.{Job}
-use Rattle.board.specs.Placement.{Placement, Legal, bottom}
+use Rattle.board.specs.Placement.{Placement, placementAt, Legal, bottom}
 use Rattle.board.specs.Precedence.{Precedes}
 use Rattle.board.specs.Rival.{Placeable, Apart, Rival, rivalSum}
-use Rattle.board.proofs.WorkedBoard.{workedBoard, workedBlock, workedJob, net1, net2, net3, net4, net5}
+use Rattle.board.specs.WorkedBoard.{workedBoard, workedJob, net1, net2, net3, net4, net5}
 use Rattle.board.specs.Tests.{isOn, isBefore, isReady, isEligible}
-use Rattle.board.proofs.RivalTests.{brokenClauses, rival-exact, BreaksOnly, breaks-only}
-use Rattle.board.proofs.RivalTests.Clause.{net-of-job, length-from-min, length-to-max, top-from-row-one, top-to-upper, bottom-from-lower, bottom-to-last-row, clear-of-blocks, on-no-earlier-track, preceding-on-earlier-tracks, tops-rise, no-shared-row}
-
--- a net drawn in a shape, with its uppermost row there
-abbrev drawn : Net → Shape → ℕ → Placement
-drawn n s row = record { net = n; shape = s; top = row }
-
--- the worked job with wider bounds: nets 1 and 3 may be longer, and min − D of net 2 is odd
-abbrev wide1 : Net
-wide1 = record { number = 1; left = record { 0 = 2 }; right = record { 0 = 4 }; min = 7; max = 13 }
-
-abbrev odd2 : Net
-odd2 = record { number = 2; left = record { 0 = 6 }; right = record { 0 = 8 }; min = 10; max = 12 }
-
-abbrev wide3 : Net
-wide3 = record { number = 3; left = record { 0 = 9 }; right = record { 0 = 10 }; min = 6; max = 10 }
-
-abbrev wideJob : Job
-wideJob = record { board = workedBoard; nets = wide1 ∷ odd2 ∷ wide3 ∷ net4 ∷ net5 ∷ []; blocks = workedBlock ∷ [] }
+use Rattle.board.specs.RivalClauses.{brokenClauses, BreaksOnly}
+use Rattle.board.specs.RivalClauses.Clause.{net-of-job, length-from-min, length-to-max, top-from-row-one, top-to-upper, bottom-from-lower, bottom-to-last-row, clear-of-blocks, on-no-earlier-track, preceding-on-earlier-tracks, tops-rise, no-shared-row}
+use Rattle.board.specs.RivalExamples.{wide1, odd2, wide3, wideJob, track1, track2, longer3, otherTop, allRows, net6}
+use Rattle.board.proofs.RivalTests.{rival-exact, breaks-only}
 
 -- ---- rival sequences and their sums
 
@@ -46,40 +30,31 @@ unfolding rivalSum
 empty-rival job earlier t = (record { placeable = tt; rising = tt; apart = tt }, refl)
 
 -- the wires that route writes: (track 1 9), and then (track 2 2)
-abbrev track1 : List Placement
-track1 = drawn net1 Plain 2 ∷ drawn net2 (Stretched 1) 5 ∷ drawn net3 Plain 9 ∷ []
-
 pub track1-rival : Rival workedJob [] 1 track1 × (rivalSum workedBoard track1 ≡ 9)
 unfolding brokenClauses rivalSum worth needed shortest
 track1-rival = (rival-exact workedJob [] 1 track1 .0 refl, refl)
-
-abbrev track2 : List Placement
-track2 = drawn net4 Plain 2 ∷ []
 
 pub track2-rival : Rival workedJob (1 ∷ 2 ∷ 3 ∷ []) 2 track2 × (rivalSum workedBoard track2 ≡ 2)
 unfolding brokenClauses rivalSum worth needed shortest
 track2-rival = (rival-exact workedJob (1 ∷ 2 ∷ 3 ∷ []) 2 track2 .0 refl, refl)
 
--- net 3 at its other allowed length, 8: the same sum
-abbrev longer3 : List Placement
-longer3 = drawn net1 Plain 2 ∷ drawn net2 (Stretched 1) 5 ∷ drawn net3 (Stretched 0) 9 ∷ []
-
+-- net 3 longer than its shortest: the same sum
 pub longer-rival : Rival workedJob [] 1 longer3 × (rivalSum workedBoard longer3 ≡ 9)
 unfolding brokenClauses rivalSum worth needed shortest
 longer-rival = (rival-exact workedJob [] 1 longer3 .0 refl, refl)
 
--- net 2 at its other top row, so that net 3 has no room
-abbrev otherTop : List Placement
-otherTop = drawn net1 Plain 2 ∷ drawn net2 (Stretched 1) 6 ∷ []
+-- net 3 could be shorter there: its shortest shape is allowed, and its length is below the one drawn
+pub longer-than-shortest : List·Memᴰ (placementAt net3 (Stretched 0) 9) longer3 × Allowed workedBoard net3 (shortest workedBoard net3) ×
+    (lengthOf workedBoard net3 (shortest workedBoard net3) < lengthOf workedBoard net3 (Stretched 0))
+unfolding shortest plainLength width span upper lower
+longer-than-shortest = (List·Memᴰ·tail (List·Memᴰ·tail (List·Memᴰ·head refl)), record { long = omega arith; short = omega arith }, omega arith)
 
+-- one that is not ours: planning/proofs/Boards.antt shows that it is not what the plan has
 pub other-top-rival : Rival workedJob [] 1 otherTop × (rivalSum workedBoard otherTop ≡ 7)
 unfolding brokenClauses rivalSum worth needed shortest
 other-top-rival = (rival-exact workedJob [] 1 otherTop .0 refl, refl)
 
 -- wires on all of rows 1 to H, of which their nets need 3 + 4 + 2
-abbrev allRows : List Placement
-allRows = drawn wide1 (Stretched 1) 1 ∷ drawn odd2 (Stretched 1) 5 ∷ drawn wide3 (Stretched 0) 9 ∷ []
-
 pub all-rows-rival : Rival wideJob [] 1 allRows × (rivalSum workedBoard allRows ≡ 9)
 unfolding brokenClauses rivalSum worth needed shortest
 all-rows-rival = (rival-exact wideJob [] 1 allRows .0 refl, refl)
@@ -97,88 +72,86 @@ sum-by-nets board (p ∷ ps) (q ∷ qs) e =
 
 -- ---- placements that break one clause alone
 
--- net 6 is not in the job; nor is a net 1 with another max
-abbrev net6 : Net
-net6 = record { number = 6; left = record { 0 = 5 }; right = record { 0 = 7 }; min = 7; max = 7 }
-
-pub unknown-net : BreaksOnly workedJob [] 1 (drawn net6 Plain 5 ∷ []) net-of-job
+-- net 6 is not in the job
+pub unknown-net : BreaksOnly workedJob [] 1 (placementAt net6 Plain 5 ∷ []) net-of-job
 unfolding brokenClauses
 unknown-net = breaks-only workedJob [] 1 _ net-of-job refl
 
-pub changed-net : BreaksOnly workedJob [] 1 (drawn wide1 (Stretched 0) 2 ∷ []) net-of-job
+-- nor is a net 1 with another max
+pub changed-net : BreaksOnly workedJob [] 1 (placementAt wide1 (Stretched 0) 2 ∷ []) net-of-job
 unfolding brokenClauses
 changed-net = breaks-only workedJob [] 1 _ net-of-job refl
 
 -- net 2 at length 9, below its min of 11
-pub too-short : BreaksOnly workedJob [] 1 (drawn net2 (Stretched 0) 6 ∷ []) length-from-min
+pub too-short : BreaksOnly workedJob [] 1 (placementAt net2 (Stretched 0) 6 ∷ []) length-from-min
 unfolding brokenClauses
 too-short = breaks-only workedJob [] 1 _ length-from-min refl
 
 -- x/2 − 1 rounded down for x = min − D = 3: length 9, below the min of 10
-pub stretch-rounded-down : BreaksOnly wideJob [] 1 (drawn odd2 (Stretched 0) 6 ∷ []) length-from-min
+pub stretch-rounded-down : BreaksOnly wideJob [] 1 (placementAt odd2 (Stretched 0) 6 ∷ []) length-from-min
 unfolding brokenClauses
 stretch-rounded-down = breaks-only wideJob [] 1 _ length-from-min refl
 
 -- net 1 at length 9, above its max of 7
-pub too-long : BreaksOnly workedJob [] 1 (drawn net1 (Stretched 0) 2 ∷ []) length-to-max
+pub too-long : BreaksOnly workedJob [] 1 (placementAt net1 (Stretched 0) 2 ∷ []) length-to-max
 unfolding brokenClauses
 too-long = breaks-only workedJob [] 1 _ length-to-max refl
 
 -- stretch run past row 1: rows 0 to 4
-pub past-row-one : BreaksOnly wideJob [] 1 (drawn wide1 (Stretched 2) 0 ∷ []) top-from-row-one
+pub past-row-one : BreaksOnly wideJob [] 1 (placementAt wide1 (Stretched 2) 0 ∷ []) top-from-row-one
 unfolding brokenClauses
 past-row-one = breaks-only wideJob [] 1 _ top-from-row-one refl
 
 -- stretch run past row H: rows 9 to 11
-pub past-last-row : BreaksOnly wideJob [] 1 (drawn wide3 (Stretched 1) 9 ∷ []) bottom-to-last-row
+pub past-last-row : BreaksOnly wideJob [] 1 (placementAt wide3 (Stretched 1) 9 ∷ []) bottom-to-last-row
 unfolding brokenClauses
 past-last-row = breaks-only wideJob [] 1 _ bottom-to-last-row refl
 
 -- net 1 on rows 3 to 5, below its fixed row 2
-pub upper-row-missed : BreaksOnly workedJob [] 1 (drawn net1 Plain 3 ∷ []) top-to-upper
+pub upper-row-missed : BreaksOnly workedJob [] 1 (placementAt net1 Plain 3 ∷ []) top-to-upper
 unfolding brokenClauses
 upper-row-missed = breaks-only workedJob [] 1 _ top-to-upper refl
 
 -- net 2 on rows 4 to 7, above its fixed row 8
-pub lower-row-missed : BreaksOnly workedJob [] 1 (drawn net2 (Stretched 1) 4 ∷ []) bottom-from-lower
+pub lower-row-missed : BreaksOnly workedJob [] 1 (placementAt net2 (Stretched 1) 4 ∷ []) bottom-from-lower
 unfolding brokenClauses
 lower-row-missed = breaks-only workedJob [] 1 _ bottom-from-lower refl
 
 -- the block of row 6 of track 2 meets the last row of net 5, and the first of net 2
-pub last-row-blocked : BreaksOnly workedJob (1 ∷ 2 ∷ 3 ∷ []) 2 (drawn net5 Plain 5 ∷ []) clear-of-blocks
+pub last-row-blocked : BreaksOnly workedJob (1 ∷ 2 ∷ 3 ∷ []) 2 (placementAt net5 Plain 5 ∷ []) clear-of-blocks
 unfolding brokenClauses
 last-row-blocked = breaks-only workedJob (1 ∷ 2 ∷ 3 ∷ []) 2 _ clear-of-blocks refl
 
-pub first-row-blocked : BreaksOnly workedJob (1 ∷ 3 ∷ []) 2 (drawn net2 (Stretched 1) 6 ∷ []) clear-of-blocks
+pub first-row-blocked : BreaksOnly workedJob (1 ∷ 3 ∷ []) 2 (placementAt net2 (Stretched 1) 6 ∷ []) clear-of-blocks
 unfolding brokenClauses
 first-row-blocked = breaks-only workedJob (1 ∷ 3 ∷ []) 2 _ clear-of-blocks refl
 
 -- net 3 stands on track 1 already
-pub placed-again : BreaksOnly workedJob (1 ∷ 2 ∷ 3 ∷ []) 2 (drawn net3 Plain 9 ∷ []) on-no-earlier-track
+pub placed-again : BreaksOnly workedJob (1 ∷ 2 ∷ 3 ∷ []) 2 (placementAt net3 Plain 9 ∷ []) on-no-earlier-track
 unfolding brokenClauses
 placed-again = breaks-only workedJob (1 ∷ 2 ∷ 3 ∷ []) 2 _ on-no-earlier-track refl
 
 -- net 1 precedes net 4 and stands on no earlier track: there is none, or it has no wire on it
-pub preceding-not-before : BreaksOnly workedJob [] 1 (drawn net4 Plain 2 ∷ []) preceding-on-earlier-tracks
+pub preceding-not-before : BreaksOnly workedJob [] 1 (placementAt net4 Plain 2 ∷ []) preceding-on-earlier-tracks
 unfolding brokenClauses
 preceding-not-before = breaks-only workedJob [] 1 _ preceding-on-earlier-tracks refl
 
-pub preceding-loose : BreaksOnly workedJob (2 ∷ 3 ∷ []) 2 (drawn net4 Plain 2 ∷ []) preceding-on-earlier-tracks
+pub preceding-loose : BreaksOnly workedJob (2 ∷ 3 ∷ []) 2 (placementAt net4 Plain 2 ∷ []) preceding-on-earlier-tracks
 unfolding brokenClauses
 preceding-loose = breaks-only workedJob (2 ∷ 3 ∷ []) 2 _ preceding-on-earlier-tracks refl
 
 -- a net on the same track as one preceding it: net 2 precedes net 5, and both cover row 6, so that two clauses break
-pub preceding-on-same-track : brokenClauses workedJob [] 1 (drawn net5 Plain 5 ∷ drawn net2 (Stretched 1) 6 ∷ []) ≡ preceding-on-earlier-tracks ∷ no-shared-row ∷ []
+pub preceding-on-same-track : brokenClauses workedJob [] 1 (placementAt net5 Plain 5 ∷ placementAt net2 (Stretched 1) 6 ∷ []) ≡ preceding-on-earlier-tracks ∷ no-shared-row ∷ []
 unfolding brokenClauses
 preceding-on-same-track = refl
 
 -- nets 3 and 1 by falling top row
-pub falling-tops : BreaksOnly workedJob [] 1 (drawn net3 Plain 9 ∷ drawn net1 Plain 2 ∷ []) tops-rise
+pub falling-tops : BreaksOnly workedJob [] 1 (placementAt net3 Plain 9 ∷ placementAt net1 Plain 2 ∷ []) tops-rise
 unfolding brokenClauses
 falling-tops = breaks-only workedJob [] 1 _ tops-rise refl
 
 -- the end row counted as free: net 2 on rows 6 to 9, net 3 on rows 9 to 10
-pub shared-end-row : BreaksOnly workedJob [] 1 (drawn net2 (Stretched 1) 6 ∷ drawn net3 Plain 9 ∷ []) no-shared-row
+pub shared-end-row : BreaksOnly workedJob [] 1 (placementAt net2 (Stretched 1) 6 ∷ placementAt net3 Plain 9 ∷ []) no-shared-row
 unfolding brokenClauses
 shared-end-row = breaks-only workedJob [] 1 _ no-shared-row refl
 

@@ -2,34 +2,27 @@
 use Prim.Native.Nat.{ℕ, _≤_, _<_}
 use mathlib.Core.Path.{_≡_, refl}
 use mathlib.Core.Logic.{_↔_, ⊎-elim}
-use mathlib.Core.Bool.{Bool, true, cond, not, _||_}
+use mathlib.Core.Bool.{Bool, true, not}
 use mathlib.Core.List.{List, [], _∷_, List·Memᴰ, List·Memᴰ·head, List·Memᴰ·tail, List·Memᴰ·cases-cons, List·Memᴰ·not-nil}
 use native.Mathlib.Omega.{arith}
 use lib.Dec.{leb, ltb}
 use borrow.Author.Tests.{leb-true, leb-false, ltb-true, ltb-false, lt-ltb}
-use Rattle.lists.specs.Lists.{Each, anyOf, allOf, allPairs}
 use Rattle.lists.proofs.Cases.{by-test}
 use Rattle.lists.proofs.Joins.{Each-each}
 use Rattle.lists.proofs.Laws.{allOf-at, EachPair-of, allOf-Each, allPairs-EachPair}
-use Rattle.board.specs.Length.{width, upper, lower, span, plainLength}
-use Rattle.board.specs.Job.{Job, closes, blocked}
+use Rattle.board.specs.Job.{Job}
 use Rattle.board.specs.Placement.{Placement, bottom}
 use Rattle.board.specs.Rival.{Apart, Rival}
-use Rattle.board.specs.Tests.{sameNet, isOfJob, isLong, isShort, isFromOne, isOverUpper, isUnderLower, isToLast, clearRows, isClear, isOn, isBefore, isReady}
+use Rattle.board.specs.Tests.{isOfJob, isLong, isShort, isFromOne, isOverUpper, isUnderLower, isToLast, isClear, isOn, isReady}
+use Rattle.board.specs.RivalClauses.{isRising, isApart, Clause, passes, clauses, failing, brokenClauses, BreaksOnly}
+use Rattle.board.specs.RivalClauses.Clause.{net-of-job, length-from-min, length-to-max, top-from-row-one, top-to-upper, bottom-from-lower, bottom-to-last-row, clear-of-blocks, on-no-earlier-track, preceding-on-earlier-tracks, tops-rise, no-shared-row}
 use Rattle.board.proofs.ExactTests.{of-job-exact, long-exact, short-exact, from-one-exact, over-upper-exact, under-lower-exact, to-last-exact, clear-exact, fresh-exact, ready-exact}
 
 -- ---- two placements
 
-unfoldable pub isRising : Placement → Placement → Bool
-isRising p q = ltb (p .top) (q .top)
-
 pub rising-exact : (p q : Placement) → isRising p q ≡ true ↔ p .top < q .top
 unfolding isRising
 rising-exact p q = (ltb-true _ _, lt-ltb _ _)
-
--- one lies wholly above the other
-unfoldable pub isApart : Placement → Placement → Bool
-isApart p q = ltb (bottom p) (q .top) || ltb (bottom q) (p .top)
 
 pub apart-exact : (p q : Placement) → isApart p q ≡ true ↔ Apart p q
 unfolding isApart
@@ -53,40 +46,6 @@ apart-exact p q = (
 
 -- ---- the twelve clauses of a rival sequence
 
-pub data Clause : Type 0 where
-  net-of-job : Clause
-  length-from-min : Clause
-  length-to-max : Clause
-  top-from-row-one : Clause
-  top-to-upper : Clause
-  bottom-from-lower : Clause
-  bottom-to-last-row : Clause
-  clear-of-blocks : Clause
-  on-no-earlier-track : Clause
-  preceding-on-earlier-tracks : Clause
-  tops-rise : Clause
-  no-shared-row : Clause
-
--- a list of placements passes the test of a clause
-unfoldable pub passes : Job → List ℕ → ℕ → List Placement → Clause → Bool
-passes job earlier t ps net-of-job = allOf (isOfJob job) ps
-passes job earlier t ps length-from-min = allOf (isLong (job .board)) ps
-passes job earlier t ps length-to-max = allOf (isShort (job .board)) ps
-passes job earlier t ps top-from-row-one = allOf isFromOne ps
-passes job earlier t ps top-to-upper = allOf isOverUpper ps
-passes job earlier t ps bottom-from-lower = allOf isUnderLower ps
-passes job earlier t ps bottom-to-last-row = allOf (isToLast (job .board)) ps
-passes job earlier t ps clear-of-blocks = allOf (isClear job t) ps
-passes job earlier t ps on-no-earlier-track = allOf (λ p. not (isOn earlier (p .net))) ps
-passes job earlier t ps preceding-on-earlier-tracks = allOf (λ p. isReady job earlier (p .net)) ps
-passes job earlier t ps tops-rise = allPairs isRising ps
-passes job earlier t ps no-shared-row = allPairs isApart ps
-
-abbrev pub clauses : List Clause
-clauses =
-    net-of-job ∷ length-from-min ∷ length-to-max ∷ top-from-row-one ∷ top-to-upper ∷ bottom-from-lower ∷ bottom-to-last-row ∷
-    clear-of-blocks ∷ on-no-earlier-track ∷ preceding-on-earlier-tracks ∷ tops-rise ∷ no-shared-row ∷ []
-
 clause-listed : (c : Clause) → List·Memᴰ c clauses
 clause-listed net-of-job = List·Memᴰ·head refl
 clause-listed length-from-min = search (List·Memᴰ·head, List·Memᴰ·tail) depth 12
@@ -100,16 +59,6 @@ clause-listed on-no-earlier-track = search (List·Memᴰ·head, List·Memᴰ·ta
 clause-listed preceding-on-earlier-tracks = search (List·Memᴰ·head, List·Memᴰ·tail) depth 12
 clause-listed tops-rise = search (List·Memᴰ·head, List·Memᴰ·tail) depth 12
 clause-listed no-shared-row = search (List·Memᴰ·head, List·Memᴰ·tail) depth 12
-
--- those of some clauses that fail a test
-unfoldable pub failing : (Clause → Bool) → List Clause → List Clause
-failing f [] = []
-failing f (c ∷ cs) = cond (f c) (failing f cs) (c ∷ failing f cs)
-
--- the clauses that a list of placements breaks, in the order above. To unfold this is to unfold all that it computes with
-unfoldable pub brokenClauses : Job → List ℕ → ℕ → List Placement → List Clause
-unfolding failing passes isOfJob sameNet isLong isShort isFromOne isOverUpper isUnderLower isToLast isClear clearRows isReady isOn isBefore isRising isApart width upper lower span plainLength closes blocked anyOf allOf allPairs
-brokenClauses job earlier t ps = failing (passes job earlier t ps) clauses
 
 none-failing : (f : Clause → Bool) (cs : List Clause) → failing f cs ≡ [] → (c : Clause) → List·Memᴰ c cs → f c ≡ true
 unfolding failing
@@ -172,9 +121,5 @@ module _ (job : Job) (earlier : List ℕ) (t : ℕ) (ps : List Placement) where
     λ r. failing-none (passes job earlier t ps) clauses (rival-passes r),
   )
 
-  -- the placements break this clause and no other, and are no rival sequence
-  abbrev pub BreaksOnly : Clause → Type 0
-  BreaksOnly c = (brokenClauses job earlier t ps ≡ c ∷ []) × (Rival job earlier t ps → ⊥)
-
-  pub breaks-only : (c : Clause) → brokenClauses job earlier t ps ≡ c ∷ [] → BreaksOnly c
+  pub breaks-only : (c : Clause) → brokenClauses job earlier t ps ≡ c ∷ [] → BreaksOnly job earlier t ps c
   breaks-only c e = (e, λ r. let n = rival-exact .1 r in let z : _≡_ {A = ℕ} 0 1 = cc in omega arith)

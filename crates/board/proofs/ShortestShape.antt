@@ -13,6 +13,7 @@ use Rattle.board.specs.declared.Shape.{Shape}
 use Rattle.board.specs.declared.Shape.the-variants.{Plain, Stretched}
 use Rattle.board.specs.Length.{width, upper, lower, span, plainLength, extra, lengthOf, Allowed, shortest, needed, worth}
 use Rattle.board.specs.Placement.{covered}
+use Rattle.board.specs.Shrunk.{Shorter}
 use Rattle.board.specs.Accepted.{BoardInRange, NetInRange}
 
 -- a + |L − R| = b
@@ -36,11 +37,6 @@ shortest-cases board n P f g =
 pub shortest-long : (board : Board) (n : Net) → n .min ≤ lengthOf board n (shortest board n)
 shortest-long board n =
     shortest-cases board n (λ s. n .min ≤ lengthOf board n s) (λ h. omega arith) (λ k h l. omega arith)
-
--- shape o is allowed and covers no more rows than shape s
-pub record Shorter (board : Board) (n : Net) (s o : Shape) : Type 0 where
-  pub allowed : Allowed board n o
-  pub fewer : extra o ≤ extra s
 
 -- where a shape is allowed, the shortest is, and covers no more rows
 pub shortest-shorter : (board : Board) (n : Net) (s : Shape) → Allowed board n s → Shorter board n s (shortest board n)

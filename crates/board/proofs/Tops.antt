@@ -1,23 +1,18 @@
 -- The top rows of a net in a shape are those from `firstTop` to `lastTop`, and a placement at any allowed length holds one at the
 -- shortest. Assumes nothing.
-use Prim.Native.Nat.{ℕ, _+_, _-_, _≤_, _<_, max}
+use Prim.Native.Nat.{ℕ, _+_, _≤_, _<_}
 use mathlib.Core.Path.{_≡_, refl}
 use mathlib.Core.Logic.{_↔_}
 use native.Mathlib.Omega.{arith}
 use Rattle.board.specs.declared.Board.{Board}
 use Rattle.board.specs.declared.Net.{Net}
 use Rattle.board.specs.declared.Shape.{Shape}
-use Rattle.board.specs.Length.{upper, extra, Allowed, shortest, needed}
-use Rattle.board.specs.Job.{Job}
-use Rattle.board.specs.Placement.{covered, Placement, shortestAt, bottom, Legal, firstTop, lastTop, Clear}
+use Rattle.board.specs.Length.{Allowed, shortest, needed}
+use Rattle.board.specs.Placement.{covered, Placement, shortestAt, bottom, Legal, firstTop, lastTop}
+use Rattle.board.specs.TopRows.{InTops}
+use Rattle.board.specs.Shrunk.{Shrunk, shrunk}
 use Rattle.board.specs.Accepted.{NetInRange, AcceptedNet}
 use Rattle.board.proofs.ShortestShape.{span-add, shortest-shorter, needed-covered, fixed-rows}
-
--- the length of p is allowed, and its top row is from `firstTop` to `lastTop`
-pub record InTops (board : Board) (p : Placement) : Type 0 where
-  pub allowed : Allowed board (p .net) (p .shape)
-  pub from-first : firstTop (p .net) (p .shape) ≤ p .top
-  pub to-last : p .top ≤ lastTop board (p .net) (p .shape)
 
 legal-tops : (board : Board) (p : Placement) → Legal board p → InTops board p
 unfolding firstTop lastTop covered
@@ -98,19 +93,7 @@ pub accepted-legal : (board : Board) (n : Net) (top : ℕ) → AcceptedNet board
 accepted-legal board n top a b c =
     tops-legal board (shortestAt board n top) (record { allowed = accepted-shortest board n a; from-first = b; to-last = c })
 
--- q is a placement of p's net at its shortest allowed length, within the rows of p, and clear on every track where p is
-pub record Shrunk (board : Board) (p q : Placement) : Type 0 where
-  pub same-net : q .net ≡ p .net
-  pub at-shortest : q .shape ≡ shortest board (p .net)
-  pub legal : Legal board q
-  pub from-top : p .top ≤ q .top
-  pub to-bottom : bottom q ≤ bottom p
-  pub clear : (job : Job) (t : ℕ) → Clear job t p → Clear job t q
-
--- p's top is kept where the shortest stretch reaches up to it, and otherwise the top is a − e
-abbrev pub shrunk : Board → Placement → Placement
-shrunk board p = shortestAt board (p .net) (max (p .top) (upper (p .net) - extra (shortest board (p .net))))
-
+-- a placement at any allowed length holds one at the shortest
 pub shrink : (board : Board) (p : Placement) → Legal board p → Shrunk board p (shrunk board p)
 shrink board p l =
     let s = shortest-shorter board (p .net) (p .shape) (l .allowed) in

@@ -18,6 +18,10 @@ pub record Placement : Type 0 where
   pub shape : Shape
   pub top : ℕ
 
+-- net n in shape s, with its top at row j
+abbrev pub placementAt : Net → Shape → ℕ → Placement
+placementAt n s j = record { net = n; shape = s; top = j }
+
 -- a shortest placement: net n at its shortest length, with its top at row j
 abbrev pub shortestAt : Board → Net → ℕ → Placement
 shortestAt board n j = record { net = n; shape = shortest board n; top = j }
@@ -35,7 +39,7 @@ pub record Legal (board : Board) (p : Placement) : Type 0 where
   pub under-lower : lower (p .net) ≤ bottom p
   pub to-last : bottom p ≤ board .rows
 
--- max(1, a − e) and min(a, H − m + 1): the first and the last top row of a net in a shape
+-- max(1, a − e), the first top row of a net in a shape
 unfoldable pub firstTop : Net → Shape → ℕ
 firstTop n s = max 1 (upper n - extra s)
 

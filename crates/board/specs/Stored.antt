@@ -12,7 +12,7 @@ use Rattle.board.specs.Accepted.{AcceptedJob}
 abbrev pub jobOf : StoredJob → Job
 jobOf s = record { board = s .board; nets = take (s .nnets) (s .nets); blocks = take (s .nblocks) (s .blocks) }
 
--- what an unused slot holds
+-- what an unused slot of the nets holds
 abbrev pub noNet : Net
 noNet = record { number = 0; left = record { 0 = 0 }; right = record { 0 = 0 }; min = 0; max = 0 }
 

@@ -11,7 +11,7 @@ use Rattle.board.specs.Length.{upper, lower, lengthOf}
 use Rattle.board.specs.Job.{Job, blocked}
 use Rattle.board.specs.Placement.{Placement, bottom}
 
--- the same net
+-- the same net: the same number, ends and bounds
 unfoldable pub sameNet : Net → Net → Bool
 sameNet m n =
     eqb (m .number) (n .number) && eqb (m .left .0) (n .left .0) && eqb (m .right .0) (n .right .0) &&
@@ -21,7 +21,7 @@ sameNet m n =
 unfoldable pub isOfJob : Job → Placement → Bool
 isOfJob job p = anyOf (sameNet (p .net)) (job .nets)
 
--- min ≤ length, and length ≤ max
+-- min ≤ length
 unfoldable pub isLong : Board → Placement → Bool
 isLong board p = leb (p .net .min) (lengthOf board (p .net) (p .shape))
 
@@ -29,7 +29,7 @@ isLong board p = leb (p .net .min) (lengthOf board (p .net) (p .shape))
 unfoldable pub isShort : Board → Placement → Bool
 isShort board p = leb (lengthOf board (p .net) (p .shape)) (p .net .max)
 
--- the rows covered are rows 1 to H, and hold the fixed ones
+-- the top is at least row 1
 unfoldable pub isFromOne : Placement → Bool
 isFromOne p = leb 1 (p .top)
 
@@ -66,6 +66,6 @@ isBefore m n = not (eqb (m .number) (n .number)) && eqb (m .left .0) (n .right .
 unfoldable pub isReady : Job → List ℕ → Net → Bool
 isReady job earlier n = allOf (λ m. not (isBefore m n) || isOn earlier m) (job .nets)
 
--- n is eligible
+-- n is eligible: it stands on no earlier track, and every net that precedes it does
 unfoldable pub isEligible : Job → List ℕ → Net → Bool
 isEligible job earlier n = not (isOn earlier n) && isReady job earlier n

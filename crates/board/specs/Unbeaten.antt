@@ -12,15 +12,15 @@ pub record FilledTrack : Type 0 where
   pub sum : ℕ
   pub wires : List Placement
 
--- a track without wires
+-- a track without wires, of sum 0
 abbrev pub emptyTrack : FilledTrack
 emptyTrack = record { sum = 0; wires = [] }
 
--- the numbers of the nets of a track
+-- the numbers of the nets of a track's wires
 abbrev pub numbers : List Placement → List ℕ
 numbers ps = map (λ p. p .net .number) ps
 
--- the numbers of the nets of several tracks
+-- the numbers of the nets of the wires of several tracks
 unfoldable pub numbersOn : List FilledTrack → List ℕ
 numbersOn [] = []
 numbersOn (tp ∷ tps) = numbers (tp .wires) ++ numbersOn tps

@@ -5,10 +5,10 @@ ghost use Rattle.board.specs.Length as lengths;
 ghost use Rattle.board.specs.Placement as placements;
 ghost use Rattle.board.specs.Accepted.{BoardInRange, NetInRange};
 
-// A row of the channel, 1 to 1,024 from the top. A row's bit and array index are row − 1.
+// A row of the channel, 1 to 1,024 from the top; 0 only in an unused slot of a job by value. A row's bit and array index are row − 1.
 pub struct Row(pub usize);
 
-// A track of the channel, 1 to 128 from the left.
+// A track of the channel, 1 to 128 from the left; 0 only in an unused slot of a job by value.
 pub struct Track(pub usize);
 
 // The size of the channel: H rows and K tracks.

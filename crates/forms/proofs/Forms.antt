@@ -12,7 +12,7 @@ use Rattle.keywords.specs.Keywords.{findFrom, findWord}
 use Rattle.keywords.specs.declared.Vocabulary.the-variants as Words
 use Rattle.lines.specs.Tokens.{tokenWords, lineWords}
 use Rattle.lines.specs.declared.Token.the-variants.{Nothing, Open, Shut, Word}
-use Rattle.lines.proofs.Tokens.{Tokened}
+use Rattle.lines.specs.Tokened.{Tokened}
 use Rattle.jobfile.specs.declared.Form.{Form}
 use Rattle.jobfile.specs.declared.Form.the-variants.{Blank, Board, Close, Other}
 use Rattle.jobfile.specs.Forms.{noWord, ifLast, arguments, formFrom, formAfter, formOpened, formOf, readForm}

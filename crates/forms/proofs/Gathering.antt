@@ -16,7 +16,8 @@ use Rattle.text.specs.declared.Number.the-variants as Read
 use Rattle.lines.specs.Tokens.{tokenAt, tokenWords, lineWords}
 use Rattle.lines.specs.declared.Token.{Token}
 use Rattle.lines.specs.declared.Token.the-variants.{Nothing, Open, Shut, Word}
-use Rattle.lines.proofs.Tokens.{TokenPlaced, Tokened, tokened}
+use Rattle.lines.specs.Tokened.{TokenPlaced, Tokened}
+use Rattle.lines.proofs.Tokens.{tokened}
 use Rattle.jobfile.specs.Forms.{noWord, consNumber, arguments}
 use Rattle.forms.specs.Arguments.{valueThen, argumentOf, argumentAt, onlyClosing}
 use Rattle.forms.specs.declared.Argument.{Argument}

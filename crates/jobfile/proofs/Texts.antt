@@ -7,7 +7,7 @@ use native.Mathlib.Omega.{arith}
 use lib.ListN.{replicate, length-replicate}
 use Rattle.lists.specs.Lists.{allOf}
 use Rattle.board.specs.Job.{Job}
-use Rattle.board.proofs.WorkedBoard.{workedJob}
+use Rattle.board.specs.WorkedBoard.{workedJob}
 use Rattle.board.specs.Length.{width, upper, lower, span, plainLength, shortest, needed}
 use Rattle.text.specs.Bytes.{bytes, lines, same, joined, pieces, nonEmpty}
 use Rattle.text.specs.Digits.{valueFrom, number}

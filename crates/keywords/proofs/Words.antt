@@ -30,8 +30,9 @@ pub none-found : (v : Vocabulary) (s : List ℕ) (i : ℕ) → length (words v) 
 unfolding findFrom
 none-found v s i h = rw (drop-of-length-le (words v) h)
 
--- What a search answers: a place of the table whose word is s, or how many words there are
+-- What a search answers
 
+-- r is a place of the words ws, of which the first has place i, whose word is s, or the place after the last
 record Found (i : ℕ) (ws : List (List ℕ)) (s : List ℕ) (r : ℕ) : Type 0 where
   from : i ≤ r
   to : r ≤ i + length ws
@@ -68,6 +69,7 @@ allOf-getD f [] i d a h = absurd (omega arith)
 allOf-getD f (x ∷ xs) zero d a h = and-split (f x) (allOf f xs) a .0
 allOf-getD f (x ∷ xs) (suc i) d a h = allOf-getD f xs i d (and-split (f x) (allOf f xs) a .1) (omega arith)
 
+-- two words are not the same
 differ : List ℕ → List ℕ → Bool
 differ w u = not (same u w)
 

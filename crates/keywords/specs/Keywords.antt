@@ -48,11 +48,11 @@ abbrev pub words : Vocabulary → List (List ℕ)
 words Job = boardWord ∷ rowsWord ∷ tracksWord ∷ netWord ∷ blockWord ∷ []
 words Layout = layoutWord ∷ trackWord ∷ wireWord ∷ looseWord ∷ []
 
--- the word at place i of its table
+-- the word at place i of its table, counted from 0; empty behind the last
 unfoldable pub wordOf : Vocabulary → ℕ → List ℕ
 wordOf v i = getD (words v) i []
 
--- the place of the first word from place i on that is s, or the one after the last
+-- the place of the first of these words that is s, where the first of them has place i; or the place after the last
 unfoldable pub findFrom : ℕ → List (List ℕ) → List ℕ → ℕ
 findFrom i [] s = i
 findFrom i (w ∷ ws) s = let more = findFrom (suc i) ws s in cond (same s w) i more

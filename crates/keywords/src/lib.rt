@@ -1,4 +1,4 @@
-// The words of the two formats, held in tables of paddedWord bytes and looked up by index when reading and when writing.
+// The words of the two formats, held in tables of padded bytes and looked up by index when reading and when writing.
 ghost use mathlib.Core.Path.{_≡_};
 ghost use Prim.Native.Nat.{_+_, _≤_, _<_};
 ghost use lib.ListN.{length, getD};
@@ -12,7 +12,7 @@ pub enum Vocabulary {
     Layout,
 }
 
-// The five words that open a form of a job, each paddedWord with 0 to eight bytes, and their lengths without the padding.
+// The five words that open a form of a job, each padded with 0 to eight bytes.
 const JOB_WORDS: [[u8; 8]; 5] = [
     *b"board\0\0\0",
     *b"rows\0\0\0\0",
@@ -21,9 +21,10 @@ const JOB_WORDS: [[u8; 8]; 5] = [
     *b"block\0\0\0",
 ];
 
+// The lengths of the five words without the padding.
 const JOB_LENGTHS: [usize; 5] = [5, 4, 6, 3, 5];
 
-// The four words that open a line of a layout, in the same way.
+// The four words that open a line of a layout, each padded with 0 to eight bytes.
 const LAYOUT_WORDS: [[u8; 8]; 4] = [
     *b"layout\0\0",
     *b"track\0\0\0",
@@ -31,6 +32,7 @@ const LAYOUT_WORDS: [[u8; 8]; 4] = [
     *b"loose\0\0\0",
 ];
 
+// The lengths of the four words without the padding.
 const LAYOUT_LENGTHS: [usize; 4] = [6, 5, 4, 5];
 
 // How many words there are.

@@ -13,6 +13,7 @@ use Rattle.text.specs.Bytes.{isEnd, joined, pieces, lines}
 use Rattle.lines.specs.declared.Place.{Place}
 use Rattle.lines.specs.declared.Step.the-variants.{Line, End}
 use Rattle.lines.specs.Places.{until, scan, lineEnd, stepAt, stepLines}
+use Rattle.lines.specs.Stepped.{Stepped}
 use Rattle.lines.proofs.Scans.{until-le}
 
 -- the two answers of a step
@@ -54,16 +55,7 @@ step-lines s p =
       | no h ↦ ap lines (drop-of-length-le s {i = p .at} (omega arith)) ∙ ap (stepLines s) (step-end s p (omega arith))
     ]
 
--- what a step over a line says: where the line lies, that the place moves on by one line and never back, and which lines are left
-pub record Stepped (s : List ℕ) (p : Place) (from to : ℕ) (n : Place) : Type 0 where
-  pub starts : from ≡ p .at
-  pub ordered : from ≤ to
-  pub inside : to ≤ length s
-  pub ahead : p .at < n .at
-  pub within : n .at ≤ length s
-  pub counted : n .passed ≡ p .passed + 1
-  pub line : lines (drop (p .at) s) ≡ take (to - from) (drop from s) ∷ lines (drop (n .at) s)
-
+-- `Stepped` holds of every step over a line
 pub stepped : (s : List ℕ) (p : Place) (from to : ℕ) (n : Place) → Line from to n ≡ stepAt s p → Stepped s p from to n
 unfolding stepLines scan
 stepped s p from to n e =

@@ -17,6 +17,7 @@ use Rattle.text.specs.Bytes.{joined, pieces, nonEmpty, isSpace, notSpace, isBra
 use Rattle.text.proofs.Bytes.{piece-then, piece-last, nonEmpty-some}
 use Rattle.lines.specs.Places.{until, scan}
 use Rattle.lines.specs.Tokens.{spaced, lineWords, opening, closing, tokenOn, tokenAt, tokenWords}
+use Rattle.lines.specs.Tokened.{TokenPlaced, Tokened}
 use Rattle.lines.specs.declared.Token.{Token}
 use Rattle.lines.specs.declared.Token.the-variants.{Nothing, Open, Shut, Word}
 use Rattle.lines.proofs.Scans.{until-le, until-before, until-at}
@@ -75,6 +76,7 @@ no-space (b ∷ w) e =
     let h = and-split (not (endsWord b)) (allOf (λ b. not (endsWord b)) w) e in
     rw (neither (isSpace b) (isBracket b) (h .0) .0, no-space w (h .1))
 
+-- what stands between spaces
 split-words : List ℕ → List (List ℕ)
 split-words l = nonEmpty (pieces isSpace l)
 
@@ -133,17 +135,7 @@ pub shut-first : (t : List ℕ) → lineWords (41 ∷ t) ≡ closing ∷ lineWor
 unfolding lineWords spaced pieces nonEmpty joined
 shut-first t = refl
 
--- what a token at `at` says of its places: they lie behind `at` and within the line; a word is no bracket
-abbrev pub TokenPlaced : List ℕ → ℕ → Token → Type 0
-TokenPlaced s at Nothing = Unit {0}
-TokenPlaced s at (Open next) = (at < next) × (next ≤ length s)
-TokenPlaced s at (Shut next) = (at < next) × (next ≤ length s)
-TokenPlaced s at (Word from to) = (at ≤ from) × (from < to) × (to ≤ length s) × (isBracket (getD s from 0) ≡ false)
-
--- the words from a place on are the token there and those behind it
-pub record Tokened (s : List ℕ) (at : ℕ) (r : Token) : Type 0 where
-  pub words : lineWords (drop at s) ≡ tokenWords s r
-  pub placed : TokenPlaced s at r
+-- what each of the four answers says of its line
 
 end-token : (s : List ℕ) (i : ℕ) → length s ≤ i → Tokened s i (tokenOn s i)
 unfolding lineWords spaced pieces nonEmpty tokenWords
@@ -189,6 +181,7 @@ placed-before s at i (Open next) h p = (omega arith, p .1)
 placed-before s at i (Shut next) h p = (omega arith, p .1)
 placed-before s at i (Word from to) h p = (omega arith, p .1, p .2, p .3)
 
+-- `Tokened` holds of every token
 pub tokened : (s : List ℕ) (at : ℕ) → Tokened s at (tokenAt s at)
 unfolding tokenAt scan
 tokened s at =

@@ -16,7 +16,7 @@ unfoldable pub until : (ℕ → Bool) → List ℕ → ℕ
 until f [] = 0
 until f (b ∷ bs) = let more = suc (until f bs) in cond (f b) 0 more
 
--- the place of the first byte at or after `at` for which f holds, or the end of the text
+-- the place of the first byte at or after `at` for which f holds, or the end of the text; `at` itself where that is not before the end
 unfoldable pub scan : (ℕ → Bool) → List ℕ → ℕ → ℕ
 scan f s at = at + until f (drop at s)
 
@@ -30,13 +30,13 @@ stopsAt WordEnd = endsWord
 abbrev pub lineEnd : List ℕ → ℕ → ℕ
 lineEnd s at = scan isEnd s at
 
--- the line at a place and the place behind it, or the end of the text
+-- the line at a place and the place behind it, with one line more passed; or the end of the text
 unfoldable pub stepAt : List ℕ → Place → Step
 stepAt s p =
     cond (ltb (p .at) (length s))
     (Line (p .at) (lineEnd s (p .at)) (record { at = min (lineEnd s (p .at) + 1) (length s); passed = p .passed + 1 })) End
 
--- the lines that are left at a step: the one that it passes and those behind it
+-- the lines that are left at a step: the one that it passes and those behind it; none at the end of the text
 unfoldable pub stepLines : List ℕ → Step → List (List ℕ)
 stepLines s (Line from to next) = take (to - from) (drop from s) ∷ lines (drop (next .at) s)
 stepLines s End = []

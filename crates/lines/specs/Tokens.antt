@@ -19,7 +19,7 @@ spaced (b ∷ bs) = let rest = spaced bs in cond (isBracket b) (32 ∷ b ∷ 32 
 unfoldable pub lineWords : List ℕ → List (List ℕ)
 lineWords s = nonEmpty (pieces isSpace (spaced s))
 
--- the two brackets as words
+-- the opening bracket as a word
 abbrev pub opening : List ℕ
 opening = 40 ∷ []
 
@@ -27,7 +27,7 @@ opening = 40 ∷ []
 abbrev pub closing : List ℕ
 closing = 41 ∷ []
 
--- the token whose first byte is at i
+-- the token whose first byte is at i, or nothing where the line ends before it
 unfoldable pub tokenOn : List ℕ → ℕ → Token
 tokenOn s i =
     cond (ltb i (length s))
@@ -37,7 +37,7 @@ tokenOn s i =
 unfoldable pub tokenAt : List ℕ → ℕ → Token
 tokenAt s at = tokenOn s (scan notSpace s at)
 
--- the words that are left at a token: the one that it is and those behind it
+-- the words that are left at a token: the one that it is and those behind it; none where there is no token
 unfoldable pub tokenWords : List ℕ → Token → List (List ℕ)
 tokenWords s Nothing = []
 tokenWords s (Open next) = opening ∷ lineWords (drop next s)

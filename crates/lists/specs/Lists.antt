@@ -30,7 +30,7 @@ module _ {A : Type 0} where
   allPairs f [] = true
   allPairs f (x ∷ xs) = allOf (f x) xs && allPairs f xs
 
-  -- the first element that passes the test
+  -- the first element that passes the test, if any does
   unfoldable pub firstOf : (A → Bool) → List A → Option A
   firstOf f [] = none
   firstOf f (x ∷ xs) = cond (f x) (some x) (firstOf f xs)

@@ -17,6 +17,7 @@ use Rattle.packing.proofs.WalkIsRival.{choice-none, choice-some, chosen
 
 -- where no net is worth more than c for each row that it needs
 module _ (job : Job) (earlier : List ℕ) (t c : ℕ) (cheap : (n : Net) → List·Memᴰ n (job .nets) → worth (job .board) n ≤ c * needed (job .board) n) where
+  -- best of the last k rows
   abbrev Best : ℕ → ℕ
   Best k = bestLast job earlier t k
 

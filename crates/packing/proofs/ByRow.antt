@@ -47,12 +47,15 @@ firstOf-lowest f (x ∷ xs) n m r h i t =
     (List·Memᴰ·cases-cons i))
 
 module _ (job : Job) (earlier : List ℕ) (t : ℕ) where
+  -- best(j)
   abbrev Best : ℕ → ℕ
   Best j = best job earlier t j
 
+  -- the choice for row j
   abbrev Choice : ℕ → Option Net
   Choice j = choiceAt job earlier t j
 
+  -- the wires from row j on
   abbrev From : ℕ → List Placement
   From j = walkFrom job earlier t j
 
@@ -78,6 +81,7 @@ module _ (job : Job) (earlier : List ℕ) (t : ℕ) where
       table-at job earlier t (job .board .rows - j) i (omega arith) ∙ ap (bestLast job earlier t) e
 
   -- ---- the walk by rows
+  -- the wires of the last k rows
   abbrev Last : ℕ → List Placement
   Last k = walk job earlier t k 0
 
@@ -154,6 +158,7 @@ module _ (job : Job) (earlier : List ℕ) (t : ℕ) where
 
     -- ---- the step of the walk at row j
     module _ (rise : EachPair (λ a b. a .number < b .number) (job .nets)) (j : ℕ) (low : 1 ≤ j) (high : j ≤ job .board .rows) where
+      -- the rows below row j
       abbrev k : ℕ
       k = job .board .rows - j
 

@@ -18,30 +18,36 @@ use Rattle.packing.specs.Best.{sumWith, bestAt, table, bestLast}
 use Rattle.packing.specs.Walk.{reaches, choice}
 use Rattle.packing.proofs.UpperBound.{bestAt-rest, bestLast-suc}
 
+-- a pick: the best sum so far, and the net that first gave it, if any
 pub record PassPick : Type 0 where
   pub sum : ℕ
   pub net : Option Net
 
 module _ (job : Job) (earlier : List ℕ) (t : ℕ) where
-  -- the nets still to be looked at, and the pick so far
+  -- the pick after a pass over nets, from the pick p on: a net that fits takes over where its sum is strictly larger
   unfoldable pub onePass : ℕ → List ℕ → List Net → PassPick → PassPick
   onePass j below [] p = p
   onePass j below (n ∷ ns) p =
       onePass j below ns (cond (fitsAt job earlier t n j && ltb (p .sum) (sumWith (job .board) below n)) (record { sum = sumWith (job .board) below n; net = some n }) p)
 
   module _ (j : ℕ) (below : List ℕ) where
+    -- net n's shortest placement may stand with its top at row j
     abbrev pub fits : Net → Bool
     fits n = fitsAt job earlier t n j
 
+    -- the sum with the top of net n at row j
     abbrev pub S : Net → ℕ
     S n = sumWith (job .board) below n
 
+    -- the pass over these nets, from the pick p on
     abbrev pub Pass : List Net → PassPick → PassPick
     Pass ns p = onePass j below ns p
 
+    -- best(j) over these nets
     abbrev At : List Net → ℕ
     At ns = bestAt job earlier t j below ns
 
+    -- the pick that takes net n
     abbrev pub took : Net → PassPick
     took n = record { sum = S n; net = some n }
 
@@ -76,11 +82,11 @@ module _ (job : Job) (earlier : List ℕ) (t : ℕ) where
         (λ l. omega (arith, ltb-false (p .sum) (S n) l, ap (λ (q : PassPick). q .sum) (scan-keep n ns p e l), at-fits n ns e, scan-sum ns p h)))
         (λ e. omega (arith, ap (λ (q : PassPick). q .sum) (scan-pass n ns p e), at-pass n ns e, scan-sum ns p h))
 
-    -- the pick's net: the one of before where nothing is better, or else the first that reaches the best
+    -- the first of these nets that fits and has the sum v
     abbrev first : ℕ → List Net → Option Net
     first v ns = firstOf (λ n. fits n && eqb (S n) v) ns
 
-    -- q is what the nets make of p
+    -- q is what the nets make of p: the net of p where its sum is p's, or else the first that has its sum
     abbrev Picked : List Net → PassPick → PassPick → Type 0
     Picked ns p q = q .net ≡ cond (eqb (q .sum) (p .sum)) (p .net) (first (q .sum) ns)
 
@@ -121,7 +127,7 @@ module _ (job : Job) (earlier : List ℕ) (t : ℕ) where
         (picked-keep n ns p (Pass ns p) l′ (omega (arith, scan-sum ns p h)) (scan-net ns p h))))
         (λ e. subst (Picked (n ∷ ns) p) (sym (scan-pass n ns p e)) (picked-pass n ns p (Pass ns p) e (scan-net ns p h)))
 
-  -- the pass over all the nets, from best(j + 1) and no net
+  -- the pass over all the nets at row H − k, from best(H − k + 1) and no net
   abbrev pub rowPick : ℕ → PassPick
   rowPick k = onePass (job .board .rows - k) (table job earlier t k) (job .nets) (record { sum = bestLast job earlier t k; net = none })
 

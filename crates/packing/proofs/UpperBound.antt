@@ -17,9 +17,10 @@ use Rattle.board.specs.declared.Net.{Net}
 use Rattle.board.specs.Length.{needed, worth}
 use Rattle.board.specs.Job.{Job}
 use Rattle.board.specs.Placement.{Placement, bottom}
+use Rattle.board.specs.Shrunk.{shrunk}
 use Rattle.board.specs.Rival.{Apart, Rival, rivalSum}
 use Rattle.board.proofs.ShortestShape.{needed-pos}
-use Rattle.board.proofs.Tops.{shortest-bottom, shrink, shrunk}
+use Rattle.board.proofs.Tops.{shortest-bottom, shrink}
 use Rattle.packing.specs.Fits.{fitsAt}
 use Rattle.packing.specs.Best.{sumWith, bestAt, table, bestLast, best}
 use Rattle.packing.proofs.Fitting.{placeable-fits}
@@ -35,9 +36,11 @@ all-below p (q ∷ qs) r a = (
 )
 
 module _ (job : Job) (earlier : List ℕ) (t : ℕ) where
+  -- net n's shortest placement may stand with its top at row j
   abbrev fits : Net → ℕ → Bool
   fits n j = fitsAt job earlier t n j
 
+  -- best of the last k rows
   abbrev Best : ℕ → ℕ
   Best k = bestLast job earlier t k
 

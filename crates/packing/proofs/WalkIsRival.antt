@@ -26,9 +26,11 @@ use Rattle.packing.proofs.Fitting.{fits-placeable, fits-within}
 use Rattle.packing.proofs.UpperBound.{bestLast-suc, table-at}
 
 module _ (job : Job) (earlier : List ℕ) (t : ℕ) where
+  -- net n's shortest placement may stand with its top at row j
   abbrev fits : Net → ℕ → Bool
   fits n j = fitsAt job earlier t n j
 
+  -- best of the last k rows
   abbrev Best : ℕ → ℕ
   Best k = bestLast job earlier t k
 
@@ -39,7 +41,7 @@ module _ (job : Job) (earlier : List ℕ) (t : ℕ) where
     pub fit : fits net j ≡ true
     pub sum : sumWith (job .board) below net ≡ v
 
-  -- best(j) is best(j + 1), or a net reaches it
+  -- v is best(j + 1), or a net of ns reaches it at row j
   abbrev Source : ℕ → List ℕ → List Net → ℕ → Type 0
   Source j below ns v = (v ≡ getD below 0 0) ⊎ Reached j below ns v
 
@@ -60,6 +62,7 @@ module _ (job : Job) (earlier : List ℕ) (t : ℕ) where
       (λ e. rw e (later j below n ns rest rest refl h))
 
   -- ---- the choice of a row
+  -- net n is one of the job, fits with its top at row H − k, and reaches best there
   pub record Chosen (k : ℕ) (n : Net) : Type 0 where
     pub listed : List·Memᴰ n (job .nets)
     pub fit : fits n (job .board .rows - k) ≡ true
@@ -94,7 +97,7 @@ module _ (job : Job) (earlier : List ℕ) (t : ℕ) where
       record { listed = f .0; fit = s .0; sum = omega (arith, ap Best q, eqb-true (sumWith (job .board) (table job earlier t k) n) (Best (suc k)) (s .1)) })
 
   -- ---- the walk
-  -- what the walk of the last k rows gives, past the first `skip` of them
+  -- placements ps are what the walk of the last k rows gives, past the first `skip` of them: a rival sequence there, with best for its sum
   pub record Walked (k skip : ℕ) (ps : List Placement) : Type 0 where
     pub rival : Rival job earlier t ps
     pub from : Each (λ p. job .board .rows + skip < p .top + k) ps

@@ -14,7 +14,7 @@ unfoldable pub sumWith : Board → List ℕ → Net → ℕ
 sumWith board below n = worth board n + getD below (needed board n - 1) 0
 
 module _ (job : Job) (earlier : List ℕ) (t : ℕ) where
-  -- best(j), from `below`: best(j + 1), or the largest sum with a net's top at row j
+  -- best(j), from `below` as above: the largest of best(j + 1) and the sums with the top of one of these nets at row j, where it fits there
   unfoldable pub bestAt : ℕ → List ℕ → List Net → ℕ
   bestAt j below [] = getD below 0 0
   bestAt j below (n ∷ ns) =

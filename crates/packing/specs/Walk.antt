@@ -33,7 +33,7 @@ module _ (job : Job) (earlier : List ℕ) (t : ℕ) where
         | some n ↦ shortestAt (job .board) n (job .board .rows - k) ∷ walk k (needed (job .board) n - 1)
       ]
 
-  -- the choice for row j, and the wires that the walk takes from row j on
+  -- the choice for row j
   unfoldable pub choiceAt : ℕ → Option Net
   choiceAt j = choice (job .board .rows - j)
 

@@ -12,11 +12,11 @@ unfoldable pub without : List ℕ → List Net → List Net
 without on [] = []
 without on (n ∷ ns) = cond (isOn on n) (without on ns) (n ∷ without on ns)
 
--- the loose nets of a plan
+-- the loose nets of a plan: those of the job without a wire in it
 unfoldable pub looseOf : Job → List FilledTrack → List Net
 looseOf job plan = without (numbersOn plan) (job .nets)
 
--- all sums of a plan
+-- all sums of a plan, added up
 unfoldable pub sumOfTracks : List FilledTrack → ℕ
 sumOfTracks [] = 0
 sumOfTracks (tp ∷ tps) = tp .sum + sumOfTracks tps

@@ -10,12 +10,12 @@ use Rattle.packing.specs.Walk.{wiresOf}
 unfoldable pub filledTrack : Job → List ℕ → ℕ → FilledTrack
 filledTrack job earlier t = record { sum = best job earlier t 1; wires = wiresOf job earlier t }
 
--- k tracks filled from track t on
+-- k tracks filled from track t on, where the nets with the numbers `earlier` stand on earlier tracks
 unfoldable pub planFrom : Job → ℕ → ℕ → List ℕ → List FilledTrack
 planFrom job zero t earlier = []
 planFrom job (suc k) t earlier =
     filledTrack job earlier t ∷ planFrom job k (suc t) (earlier ++ numbers (wiresOf job earlier t))
 
--- the plan of the job
+-- the plan of the job: tracks 1 to K filled
 unfoldable pub planOf : Job → List FilledTrack
 planOf job = planFrom job (job .board .tracks) 1 []

@@ -13,7 +13,8 @@ use Rattle.text.specs.Bytes.{lines}
 use Rattle.lines.specs.Places.{stepAt}
 use Rattle.lines.specs.declared.Step.{Step}
 use Rattle.lines.specs.declared.Step.the-variants.{Line, End}
-use Rattle.lines.proofs.Steps.{Stepped, stepped, ended}
+use Rattle.lines.specs.Stepped.{Stepped}
+use Rattle.lines.proofs.Steps.{stepped, ended}
 use Rattle.jobfile.specs.declared.Form.{Form}
 use Rattle.jobfile.specs.declared.Form.the-variants as Is
 use Rattle.jobfile.specs.declared.Outcome.the-variants.{Accepted, TooLong, NotOfForm}

@@ -8,7 +8,7 @@ use Rattle.board.specs.Job.{Job, closes, blocked}
 use Rattle.board.specs.Placement.{covered, firstTop, lastTop}
 use Rattle.board.specs.Unbeaten.{numbersOn}
 use Rattle.board.specs.Tests.{clearRows, isOn, isBefore, isReady, isEligible}
-use Rattle.board.proofs.WorkedBoard.{workedJob}
+use Rattle.board.specs.WorkedBoard.{workedJob}
 use Rattle.packing.specs.Fits.{fitsAt}
 use Rattle.packing.specs.Best.{sumWith, bestAt, table, bestLast, best}
 use Rattle.packing.specs.Walk.{reaches, choice, walk, walkFrom, wiresOf}

@@ -4,8 +4,9 @@ use mathlib.Core.Path.{_≡_, refl}
 use mathlib.Core.List.{[], _∷_}
 use Rattle.lists.specs.Lists.{Each}
 use Rattle.board.specs.Job.{Job}
-use Rattle.board.proofs.WorkedBoard.{workedJob}
-use Rattle.board.proofs.Lengths.{triedBoard, triedNet, rows-21, rows-20, rows-14, min-22, min-8}
+use Rattle.board.specs.WorkedBoard.{workedJob}
+use Rattle.board.specs.TriedBoards.{triedBoard, triedNet}
+use Rattle.board.proofs.Lengths.{rows-21, rows-20, rows-14, min-22, min-8}
 use Rattle.text.specs.Bytes.{bytes}
 use Rattle.jobfile.specs.declared.Outcome.the-variants.{NotOfForm, NoLength}
 use Rattle.jobfile.specs.Read.{boardOf, emptyBoard}

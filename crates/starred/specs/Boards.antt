@@ -5,7 +5,7 @@ use mathlib.Core.Path.{_≡_}
 use mathlib.Core.List.{List, [], _∷_}
 use Rattle.board.specs.declared.Net.{Net}
 use Rattle.board.specs.Job.{Job}
-use Rattle.board.specs.Tried.{Tried}
+use Rattle.board.specs.TriedBoards.{Tried}
 use Rattle.text.specs.Bytes.{bytes}
 use Rattle.jobfile.specs.declared.Outcome.{Outcome}
 use Rattle.jobfile.specs.Read.{accepted, refused, readJob}

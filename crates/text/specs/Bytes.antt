@@ -18,7 +18,7 @@ same [] (b ∷ t) = false
 same (a ∷ s) [] = false
 same (a ∷ s) (b ∷ t) = eqb a b && same s t
 
--- a byte put before the first piece
+-- a byte put before the first piece; where there is none, it is a piece of its own
 unfoldable pub joined : ℕ → List (List ℕ) → List (List ℕ)
 joined b [] = (b ∷ []) ∷ []
 joined b (p ∷ ps) = (b ∷ p) ∷ ps

@@ -22,7 +22,7 @@ digits n = digitsIn n n
 abbrev pub isDigit : ℕ → Bool
 isDigit b = leb 48 b && leb b 57
 
--- the number that digits stand for, after those that make acc
+-- the number that digits stand for, read behind digits that stand for acc
 unfoldable pub valueFrom : ℕ → List ℕ → ℕ
 valueFrom acc [] = acc
 valueFrom acc (b ∷ bs) = valueFrom (acc * 10 + (b - 48)) bs
@@ -31,7 +31,7 @@ valueFrom acc (b ∷ bs) = valueFrom (acc * 10 + (b - 48)) bs
 unfoldable pub number : ℕ → List ℕ → Option ℕ
 number most w = cond (leb 1 (length w) && leb (length w) most && allOf isDigit w) (some (valueFrom 0 w)) none
 
--- the same as the answer of the code
+-- a number or none as the code's answer
 unfoldable pub asNumber : Option ℕ → Number
 asNumber none = Bad
 asNumber (some n) = Value n

@@ -8,7 +8,7 @@ use lib.ListN.{length, take, drop}
 abbrev pub over : List ℕ → List ℕ → List ℕ
 over text s = text ++ drop (length text) s
 
--- a writer's answer `used`, and its buffer afterwards
+-- a writer answers r, the bytes used, which are those of the text; its buffer afterwards has the text over its first bytes, the rest as before
 pub record Written (text before after : List ℕ) (r : ℕ) : Type 0 where
   pub used : r ≡ length text
   pub bytes : after ≡ over text before
@@ -17,7 +17,7 @@ pub record Written (text before after : List ℕ) (r : ℕ) : Type 0 where
 abbrev pub overAt : ℕ → List ℕ → List ℕ → List ℕ
 overAt at text s = take at s ++ over text (drop at s)
 
--- the same where the writer is told the place, and answers with the next one
+-- the same where the writer is told the place, and answers r, the place behind the text
 pub record WrittenAt (at : ℕ) (text before after : List ℕ) (r : ℕ) : Type 0 where
   pub next : r ≡ at + length text
   pub bytes : after ≡ overAt at text before

@@ -17,11 +17,12 @@ use Rattle.board.specs.declared.Shape.{Shape}
 use Rattle.board.specs.declared.Shape.the-variants.{Plain, Stretched}
 use Rattle.board.specs.declared.Track.{Track}
 use Rattle.board.specs.Length.{width, span}
+use Rattle.board.specs.Placement.{placementAt}
 use Rattle.layout.specs.declared.Point.{Point}
 use Rattle.layout.specs.Tree.{opens, track, loose, closes}
 use Rattle.layout.specs.LayoutText.{pointsThen, lineText}
 use Rattle.layout.specs.Drawing.{at, samePoint, distinctFrom, viaColumn, wireColumn, nearRow, farRow, corners, pointsOn, wireOf}
-use Rattle.writer.specs.Lines.{endedLine, headText, pointText, nextText, pathText, pinText, plainPath, stretchedPath, placementOf, pointsText, wireLine}
+use Rattle.writer.specs.Lines.{endedLine, headText, pointText, nextText, pathText, pinText, plainPath, stretchedPath, pointsText, wireLine}
 
 pub opening-parts : endedLine opens ≡ ((40 ∷ []) ++ wordOf Layout 0) ++ (10 ∷ [])
 unfolding lineText wordOf
@@ -48,10 +49,10 @@ path-points p (q ∷ qs) rest =
     by-test (samePoint p q) (λ e. rw e h) (λ e. rw (e, h) (simp append-assoc))
 
 wire-points : (board : Board) (t : Track) (net : Net) (shape : Shape) (top : Row) (rest : List ℕ) →
-    pointsThen (pointsOn board (t .0) (placementOf net shape top)) rest ≡ pointsText board t net shape top ++ rest
+    pointsThen (pointsOn board (t .0) (placementAt net shape (top .0))) rest ≡ pointsText board t net shape top ++ rest
 unfolding pointsOn pointsThen pinText pointText
 wire-points board t net shape top rest =
-    rw (path-points (at 0 (net .left .0)) (corners board (t .0) (placementOf net shape top) shape) rest) (simp append-assoc)
+    rw (path-points (at 0 (net .left .0)) (corners board (t .0) (placementAt net shape (top .0)) shape) rest) (simp append-assoc)
 
 tail-parts : (d p q : List ℕ) → q ≡ p ++ (41 ∷ []) → (d ++ q) ++ (10 ∷ []) ≡ (d ++ p) ++ (41 ∷ 10 ∷ [])
 tail-parts d p q e = rw e (simp append-assoc)

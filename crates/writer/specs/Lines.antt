@@ -11,7 +11,7 @@ use Rattle.board.specs.declared.Row.{Row}
 use Rattle.board.specs.declared.Shape.{Shape}
 use Rattle.board.specs.declared.Track.{Track}
 use Rattle.board.specs.Length.{extra}
-use Rattle.board.specs.Placement.{Placement}
+use Rattle.board.specs.Placement.{placementAt}
 use Rattle.board.specs.Accepted.{BoardInRange, NetInRange}
 use Rattle.layout.specs.Tree.{Line, wire}
 use Rattle.layout.specs.declared.Point.{Point}
@@ -56,17 +56,13 @@ plainPath c w l r = at c l ∷ at c r ∷ at w r ∷ []
 abbrev pub stretchedPath : ℕ → ℕ → ℕ → ℕ → ℕ → ℕ → List Point
 stretchedPath c w l r u v = at c l ∷ at c u ∷ at (c + 1) u ∷ at (c + 1) v ∷ at c v ∷ at c r ∷ at w r ∷ []
 
--- the placement that is drawn
-abbrev pub placementOf : Net → Shape → Row → Placement
-placementOf net shape top = record { net = net; shape = shape; top = top .0 }
-
 -- the points of a placement on a track, and the line of its wire
 abbrev pub pointsText : Board → Track → Net → Shape → Row → List ℕ
-pointsText board track net shape top = pinText (net .left .0) (corners board (track .0) (placementOf net shape top) shape)
+pointsText board track net shape top = pinText (net .left .0) (corners board (track .0) (placementAt net shape (top .0)) shape)
 
 -- the line of the wire
 abbrev pub wireLine : Board → Track → Net → Shape → Row → List ℕ
-wireLine board track net shape top = endedLine (wire (wireOf board (track .0) (placementOf net shape top)))
+wireLine board track net shape top = endedLine (wire (wireOf board (track .0) (placementAt net shape (top .0))))
 
 -- small enough to be drawn: nothing overflows
 pub record Drawable (board : Board) (track : Track) (net : Net) (shape : Shape) (top : Row) : Type 0 where

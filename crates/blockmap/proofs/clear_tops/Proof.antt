@@ -15,7 +15,7 @@ use borrow.Author.Needs.{needs}
 use Rattle.blockmap.proofs.clear_tops.Statement.{statement}
 use Rattle.blockmap.proofs.clear_tops.Tie as tie
 
--- the top is clear
+-- the rows covered from the top on are clear
 abbrev Test : List ℕ → ℕ → ℕ → Bool
 Test words rows top = allUnset words top rows
 
@@ -25,9 +25,11 @@ Inv-loop rows flags map start stop known₀ top₀ index end from row₀ known t
 abbrev μ-loop : tie.MeasureT-loop
 μ-loop rows flags map start stop known₀ top₀ index end from row₀ known top row = end - row
 
+-- before each turn over the tops: their bytes so far are right, and rows from the top on are known to be clear
 abbrev Inv-tops : tie.InvT-tops
 Inv-tops rows flags₀ map start stop known₀ top₀ flags known top = (start ≤ top) × (top ≤ stop) × (length flags ≡ length flags₀) × (flags ≡ flagTops (Test (map .words) rows) start (top - start) flags₀) × (known ≤ top + rows) × ClearFrom (map .words) top known
 
+-- the tops that are left
 abbrev μ-tops : tie.MeasureT-tops
 μ-tops rows flags₀ map start stop known₀ top₀ flags known top = stop - top
 

@@ -3,7 +3,7 @@ use mathlib.Core.Path.{sym, _∙_}
 use native.Mathlib.Omega.{arith}
 use denote.Ref.{now}
 use Rattle.lines.specs.declared.Token.the-variants.{Word}
-use Rattle.lines.proofs.Tokens.{Tokened}
+use Rattle.lines.specs.Tokened.{Tokened}
 use Rattle.forms.proofs.Gathering.{token-is}
 use Rattle.forms.proofs.Forms.{opened-word, opened-open, opened-shut, opened-none}
 use borrow.Author.Needs.{needs}

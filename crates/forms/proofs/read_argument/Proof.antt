@@ -3,7 +3,7 @@ use mathlib.Core.Path.{sym, ap, _∙_}
 use native.Mathlib.Omega.{arith}
 use denote.Ref.{now}
 use Rattle.lines.specs.declared.Token.the-variants.{Word}
-use Rattle.lines.proofs.Tokens.{Tokened}
+use Rattle.lines.specs.Tokened.{Tokened}
 use Rattle.forms.specs.Arguments.{argumentOf, argumentAt}
 use Rattle.forms.proofs.Gathering.{token-is, value-is, bad-is}
 use borrow.Author.Needs.{needs}

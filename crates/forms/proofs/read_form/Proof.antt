@@ -2,7 +2,7 @@
 use mathlib.Core.Path.{sym, _∙_}
 use denote.Ref.{now}
 use Rattle.lines.specs.declared.Token.the-variants.{Open, Shut}
-use Rattle.lines.proofs.Tokens.{Tokened}
+use Rattle.lines.specs.Tokened.{Tokened}
 use Rattle.forms.proofs.Gathering.{token-is}
 use Rattle.forms.proofs.Forms.{form-none, form-open, form-shut, form-word}
 use borrow.Author.Needs.{needs}

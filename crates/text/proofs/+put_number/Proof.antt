@@ -13,13 +13,16 @@ use Rattle.text.proofs.+put_number.Lts-put_number as put-number-lts
 use Rattle.text.proofs.+put_number.{statement}
 use Rattle.text.proofs.+put_number.Tie.{close}
 
+-- the measure: the number to be written
 abbrev μ-put-number : Measures 1 put-number-kinds.ps ℕ
 μ-put-number κs a = a .1 .0
 
+-- a call with the measure t, whose `requires` holds
 abbrev put-number-at : ℕ → In 1 put-number-kinds.ps
 put-number-at t =
     and 1 put-number-kinds.ps (is 1 put-number-kinds.ps μ-put-number t) put-number.Pre
 
+-- a call with a measure below t, whose `requires` holds
 abbrev put-number-below : ℕ → In 1 put-number-kinds.ps
 put-number-below t =
     and 1 put-number-kinds.ps (falls 1 put-number-kinds.ps _<_ μ-put-number t) put-number.Pre

@@ -2,7 +2,8 @@
 use mathlib.Core.Path.{sym, ap, _∙_}
 use native.Mathlib.Omega.{arith}
 use denote.Ref.{now}
-use Rattle.lines.proofs.Steps.{Stepped, stepped}
+use Rattle.lines.specs.Stepped.{Stepped}
+use Rattle.lines.proofs.Steps.{stepped}
 use Rattle.reader.specs.Cursors.{formOn, formStep}
 use borrow.Author.Needs.{needs}
 use Rattle.reader.proofs.Cursor.next.Statement.{statement}

@@ -1,4 +1,4 @@
--- The worked example of document 01, "Drawing", as a value: its board, nets, block and job. Assumes nothing.
+-- The worked example of document 01, "Drawing", as a value: its board, nets, block and job.
 use mathlib.Core.List.{[], _∷_}
 use Rattle.board.specs.declared.Board.{Board}
 use Rattle.board.specs.declared.Net.{Net}
@@ -33,6 +33,7 @@ net5 = record { number = 5; left = record { 0 = 5 }; right = record { 0 = 6 }; m
 abbrev pub workedBlock : Block
 workedBlock = record { track = record { 0 = 2 }; first = record { 0 = 6 }; last = record { 0 = 6 } }
 
+-- the whole job
 abbrev pub workedJob : Job
 workedJob = record {
   board = workedBoard;

@@ -1,4 +1,4 @@
--- Document 01, "Boards to try": what the document says of one net of a board.
+-- Document 01, "Boards to try": one net, from row 10 to row 14, on a board with one track, and what is tried of it.
 use Prim.Native.Nat.{ℕ, _≤_}
 use mathlib.Core.Path.{_≡_}
 use mathlib.Core.Logic.{_↔_}
@@ -7,6 +7,14 @@ use Rattle.board.specs.declared.Net.{Net}
 use Rattle.board.specs.declared.Shape.the-variants.{Stretched}
 use Rattle.board.specs.Length.{lengthOf, Allowed, shortest, needed}
 use Rattle.board.specs.Placement.{Legal, shortestAt}
+
+-- a board with one track and so many rows
+abbrev pub triedBoard : ℕ → Board
+triedBoard rows = record { rows = rows; tracks = 1 }
+
+-- the net from row 10 to row 14 with these bounds
+abbrev pub triedNet : ℕ → ℕ → Net
+triedNet least most = record { number = 1; left = record { 0 = 10 }; right = record { 0 = 14 }; min = least; max = most }
 
 -- the shortest allowed length of the net is l, with stretch e and n needed rows, and its tops there are the rows `first` to `last`
 pub record Tried (board : Board) (net : Net) (l e n first last : ℕ) : Type 0 where

@@ -10,14 +10,18 @@ is-within-requires : tie.Need-is-within-requires
 is-within-requires c κs = search needs
 
 returns : tie.Need-returns
-returns c = track-outside _ _ (sym (c .before .is-within .ensures) ∙ not-true _ (c .if1 .taken))
+returns c =
+    let a = c .before .before .args in
+    track-outside (a .size) (a .block)
+    (sym (c .before .is-within .ensures) ∙ not-true _ (c .if1 .taken))
 
 is-within-requires-2 : tie.Need-is-within-requires-2
 is-within-requires-2 c κs = search needs
 
 returns-2 : tie.Need-returns-2
 returns-2 c =
-    first-outside _ _
+    let a = c .before .before .before .before .args in
+    first-outside (a .size) (a .block)
     (sym (c .before .before .before .is-within .ensures) ∙ not-false _ (c .before .before .if1 .left))
     (sym (c .before .is-within2 .ensures) ∙ not-true _ (c .if2 .taken))
 
@@ -26,14 +30,16 @@ is-within-requires-3 c κs = search needs
 
 returns-3 : tie.Need-returns-3
 returns-3 c =
-    last-outside _ _
+    let a = c .before .before .before .before .before .before .args in
+    last-outside (a .size) (a .block)
     (sym (c .before .before .before .before .before .is-within .ensures) ∙ not-false _ (c .before .before .before .before .if1 .left))
     (sym (c .before .before .before .is-within2 .ensures) ∙ not-false _ (c .before .before .if2 .left))
     (sym (c .before .is-within3 .ensures) ∙ not-true _ (c .if3 .taken))
 
 returns-4 : tie.Need-returns-4
 returns-4 c =
-    order-decides _ _
+    let a = c .before .before .before .before .before .before .before .args in
+    order-decides (a .size) (a .block)
     (sym (c .before .before .before .before .before .before .is-within .ensures) ∙ not-false _ (c .before .before .before .before .before .if1 .left))
     (sym (c .before .before .before .before .is-within2 .ensures) ∙ not-false _ (c .before .before .before .if2 .left))
     (sym (c .before .before .is-within3 .ensures) ∙ not-false _ (c .before .if3 .left))

@@ -10,14 +10,18 @@ is-within-requires : tie.Need-is-within-requires
 is-within-requires c κs = search needs
 
 returns : tie.Need-returns
-returns c = number-outside _ _ (sym (c .before .is-within .ensures) ∙ not-true _ (c .if1 .taken))
+returns c =
+    let a = c .before .before .args in
+    number-outside (a .size) (a .net)
+    (sym (c .before .is-within .ensures) ∙ not-true _ (c .if1 .taken))
 
 is-within-requires-2 : tie.Need-is-within-requires-2
 is-within-requires-2 c κs = search needs
 
 returns-2 : tie.Need-returns-2
 returns-2 c =
-    left-outside _ _
+    let a = c .before .before .before .before .args in
+    left-outside (a .size) (a .net)
     (sym (c .before .before .before .is-within .ensures) ∙ not-false _ (c .before .before .if1 .left))
     (sym (c .before .is-within2 .ensures) ∙ not-true _ (c .if2 .taken))
 
@@ -26,14 +30,16 @@ is-within-requires-3 c κs = search needs
 
 returns-3 : tie.Need-returns-3
 returns-3 c =
-    right-outside _ _
+    let a = c .before .before .before .before .before .before .args in
+    right-outside (a .size) (a .net)
     (sym (c .before .before .before .before .before .is-within .ensures) ∙ not-false _ (c .before .before .before .before .if1 .left))
     (sym (c .before .before .before .is-within2 .ensures) ∙ not-false _ (c .before .before .if2 .left))
     (sym (c .before .is-within3 .ensures) ∙ not-true _ (c .if3 .taken))
 
 returns-4 : tie.Need-returns-4
 returns-4 c =
-    min-outside _ _
+    let a = c .before .before .before .before .before .before .before .before .args in
+    min-outside (a .size) (a .net)
     (sym (c .before .before .before .before .before .before .before .is-within .ensures) ∙ not-false _ (c .before .before .before .before .before .before .if1 .left))
     (sym (c .before .before .before .before .before .is-within2 .ensures) ∙ not-false _ (c .before .before .before .before .if2 .left))
     (sym (c .before .before .before .is-within3 .ensures) ∙ not-false _ (c .before .before .if3 .left))
@@ -41,7 +47,8 @@ returns-4 c =
 
 returns-5 : tie.Need-returns-5
 returns-5 c =
-    max-decides _ _
+    let a = c .before .before .before .before .before .before .before .before .before .args in
+    max-decides (a .size) (a .net)
     (sym (c .before .before .before .before .before .before .before .before .is-within .ensures) ∙ not-false _ (c .before .before .before .before .before .before .before .if1 .left))
     (sym (c .before .before .before .before .before .before .is-within2 .ensures) ∙ not-false _ (c .before .before .before .before .before .if2 .left))
     (sym (c .before .before .before .before .is-within3 .ensures) ∙ not-false _ (c .before .before .before .if3 .left))

@@ -1,6 +1,7 @@
 -- `reader::take_tracks` meets its contract. Assumes nothing.
 use mathlib.Core.Path.{sym, _∙_}
 use borrow.Author.Tests.{not-true, not-false}
+use Rattle.jobfile.specs.Read.{within}
 use Rattle.reader.proofs.Lines.{fails-test, passes-test, tracks-held}
 use borrow.Author.Needs.{needs}
 use Rattle.reader.proofs.take_tracks.Statement.{statement}
@@ -15,7 +16,7 @@ refused-requires c κs = search needs
 returns : tie.Need-returns
 returns c =
     c .refused .ensures
-    ∙ fails-test _ _ _ (sym (c .before .before .is-within .ensures) ∙ not-true _ (c .before .if1 .taken))
+    ∙ fails-test (within 1 128 (c .before .before .before .args .k)) _ _ (sym (c .before .before .is-within .ensures) ∙ not-true _ (c .before .if1 .taken))
 
 empty-job-requires : tie.Need-empty-job-requires
 empty-job-requires c κs = search needs
@@ -25,7 +26,8 @@ accepted-requires c κs = search needs
 
 returns-2 : tie.Need-returns-2
 returns-2 c =
-    passes-test _ _ _ _ (sym (c .before .before .before .is-within .ensures) ∙ not-false _ (c .before .before .if1 .left))
+    passes-test (within 1 128 (c .before .before .before .before .args .k)) _ _ _
+    (sym (c .before .before .before .is-within .ensures) ∙ not-false _ (c .before .before .if1 .left))
     (c .accepted .ensures ∙ tracks-held _ _ (c .before .empty-job .ensures))
 
 pub take-tracks-spec : {M : Type 1} → statement M

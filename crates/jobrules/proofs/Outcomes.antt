@@ -25,11 +25,11 @@ test-yes {x} {y} m e h = le-leb y m (omega arith)
 pub test-no : {x y : ℕ} (m : ℕ) → x ≡ y → m < x → leb y m ≡ false
 test-no {x} {y} m e h = lt-leb y m (omega arith)
 
-pub number-above : {x y m : ℕ} → x ≡ y → x < m → ltb y m ≡ true
-number-above {x} {y} {m} e h = lt-ltb y m (omega arith)
+pub test-below : {x y m : ℕ} → x ≡ y → x < m → ltb y m ≡ true
+test-below {x} {y} {m} e h = lt-ltb y m (omega arith)
 
-pub not-above : {x y m : ℕ} → x ≡ y → m ≤ x → ltb y m ≡ false
-not-above {x} {y} {m} e h = le-ltb y m (omega arith)
+pub test-not-below : {x y m : ℕ} → x ≡ y → m ≤ x → ltb y m ≡ false
+test-not-below {x} {y} {m} e h = le-ltb y m (omega arith)
 
 -- ---- the outcome of a net: the first of the tests 3 to 7 that fails
 

@@ -13,7 +13,7 @@ use Rattle.board.proofs.ShortestShape.{stretch-range}
 use Rattle.jobfile.specs.Read.{netInRange, lastNumber, pinsFree}
 use Rattle.jobfile.proofs.Tests.{net-range-is, differ-is}
 use Rattle.jobrules.proofs.Slots.{net-slot-free, net-slots-used}
-use Rattle.jobrules.proofs.Outcomes.{test-yes, test-no, fails-3, fails-4, fails-5, fails-6, fails-7, number-above, not-above, Passes7, fails-8, fails-9, passes-9}
+use Rattle.jobrules.proofs.Outcomes.{test-yes, test-no, fails-3, fails-4, fails-5, fails-6, fails-7, test-below, test-not-below, Passes7, fails-8, fails-9, passes-9}
 use borrow.Author.Needs.{needs}
 use Rattle.jobrules.proofs.net_outcome.Statement.{statement}
 use Rattle.jobrules.proofs.net_outcome.Tie as tie
@@ -29,7 +29,7 @@ few : (c : tie.Else2) → ltb (length (jobOf (c .before .before .before .before 
 few c = net-slot-free _ (c .before .before .before .before .before .before .pre) (c .if2 .left)
 
 above : (c : tie.Else3) → ltb (lastNumber 0 (jobOf (c .before .before .before .before .before .before .before .before .args .job) .nets)) (c .before .before .before .before .before .before .before .before .args .net .number) ≡ true
-above c = number-above (c .before .before .before .before .last-number .ensures) (c .if3 .left)
+above c = test-below (c .before .before .before .before .last-number .ensures) (c .if3 .left)
 
 free : (c : tie.Else4) → allOf (pinsFree (c .before .before .before .before .before .before .before .before .before .before .args .net)) (jobOf (c .before .before .before .before .before .before .before .before .before .before .args .job) .nets) ≡ true
 free c = sym (c .before .are-pins-free .ensures) ∙ not-false _ (c .if4 .left)
@@ -59,7 +59,7 @@ returns-2 c = fails-4 _ _ _ (ranged (c .before .before .before)) (net-slots-used
 returns-3 : tie.Need-returns-3
 returns-3 c =
     fails-5 _ _ _ (ranged (c .before .before .before .before .before)) (few (c .before .before))
-    (not-above (c .before .before .before .before .last-number .ensures) (c .if3 .taken))
+    (test-not-below (c .before .before .before .before .last-number .ensures) (c .if3 .taken))
 
 are-pins-free-requires : tie.Need-are-pins-free-requires
 are-pins-free-requires c κs = search needs

@@ -6,9 +6,9 @@ use mir.Val.{Val}
 use denote.Laws.{Is}
 use denote.Struct.Declared.{row}
 use borrow.Author.Needs.{needs}
+use Rattle.lists.proofs.Places.{length-mapped}
 use Rattle.board.specs.declared.StoredJob.{StoredJob}
 use Rattle.board.proofs.StoredJob.{the-type}
-use Rattle.candidates.proofs.Prefixes.{length-mapped}
 
 module _ (job : StoredJob) {vs : List Val} (good : Is (row the-type) job vs) where
   pub net-size : length (job .nets) ≡ 512

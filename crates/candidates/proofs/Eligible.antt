@@ -12,6 +12,7 @@ use borrow.Author.Tests.{eq-eqb, ne-eqb}
 use Rattle.lists.specs.Lists.{Each, EachPair, anyOf, allOf}
 use Rattle.lists.proofs.Cases.{by-test}
 use Rattle.lists.proofs.Laws.{allOf-at, allOf-of, Each-at}
+use Rattle.lists.proofs.Places.{mem-at, same-key}
 use Rattle.board.specs.declared.Net.{Net}
 use Rattle.board.specs.Job.{Job}
 use Rattle.board.specs.Stored.{noNet}
@@ -21,7 +22,6 @@ use Rattle.board.specs.Tests as tests
 use Rattle.board.proofs.ExactTests.{precedes-exact}
 use Rattle.candidates.specs.Placed.{indexFrom, eligibleAt, Placed, numbersFrom, placedNumbers}
 use Rattle.candidates.specs.Gathered.{candidatesFrom, candidatesOf}
-use Rattle.candidates.proofs.Prefixes.{mem-at, same-key}
 use Rattle.candidates.proofs.NetBefore.{beforeIn, numbers-differ}
 
 -- the index found, by cases

@@ -12,6 +12,7 @@ use borrow.Author.Tests.{eq-eqb, ne-eqb}
 use Rattle.lists.specs.Lists.{Each, EachPair, anyOf, allOf}
 use Rattle.lists.proofs.Cases.{by-test}
 use Rattle.lists.proofs.Laws.{allOf-at, allOf-of, Each-at}
+use Rattle.lists.proofs.Places.{mem-at, same-key}
 use Rattle.board.specs.declared.Net.{Net}
 use Rattle.board.specs.Job.{Job}
 use Rattle.board.specs.Stored.{noNet}
@@ -21,8 +22,21 @@ use Rattle.board.specs.Tests as tests
 use Rattle.board.proofs.ExactTests.{precedes-exact}
 use Rattle.candidates.specs.Placed.{indexFrom, eligibleAt, Placed, numbersFrom, placedNumbers}
 use Rattle.candidates.specs.Gathered.{candidatesFrom, candidatesOf}
-use Rattle.candidates.proofs.Prefixes.{mem-at, same-key}
 use Rattle.candidates.proofs.NetBefore.{beforeIn, numbers-differ}
+
+-- the test, one look-up after another
+module _ (before : ℕ) (placed : List ℕ) (i : ℕ) where
+  pub stands-already : (getD placed i 0 ≡ 0 → ⊥) → false ≡ eligibleAt before placed i
+  unfolding eligibleAt
+  stands-already h = rw (ne-eqb (getD placed i 0) 0 h)
+
+  pub none-precedes : getD placed i 0 ≡ 0 → before ≡ 512 → true ≡ eligibleAt before placed i
+  unfolding eligibleAt
+  none-precedes h e = rw (eq-eqb (getD placed i 0) 0 h, eq-eqb before 512 e)
+
+  pub one-precedes : getD placed i 0 ≡ 0 → (before ≡ 512 → ⊥) → not (eqb (getD placed before 0) 0) ≡ eligibleAt before placed i
+  unfolding eligibleAt
+  one-precedes h d = rw (eq-eqb (getD placed i 0) 0 h, ne-eqb before 512 d)
 
 -- the index found, by cases
 pub index-cases : {P : Type 0} (f : Net → Bool) (xs : List Net) (i : ℕ)

@@ -6,6 +6,7 @@ use mathlib.Core.List.{List, [], _∷_, _++_}
 use native.Mathlib.Omega.{arith}
 use lib.ListN.{length, getD, take}
 use lib.Seq.{length-take-le, getD-take}
+use Rattle.lists.proofs.Places.{take-more}
 use Rattle.board.specs.declared.Net.{Net}
 use Rattle.board.specs.declared.StoredJob.{StoredJob}
 use Rattle.board.specs.declared.Board.{Board}
@@ -24,7 +25,6 @@ use Rattle.candidates.specs.declared.NetTops.{NetTops}
 use Rattle.board.specs.Stored.{AcceptedStored}
 use Rattle.candidates.specs.Placed.{eligibleAt, precedingOf, placedNumbers}
 use Rattle.candidates.specs.Gathered.{Candidate, candidatesFrom, candidatesOf, TopsOf, arraysOf, onPart, flagSlot, flagSlots, GatheredFrom}
-use Rattle.candidates.proofs.Prefixes.{take-more}
 use Rattle.candidates.proofs.NetBefore.{before-at}
 use Rattle.candidates.proofs.Eligible.{eligible-ready, placed-numbers, same-candidates, candidates-taken, candidates-passed, candidates-length}
 use Rattle.candidates.proofs.FlagParts.{part-length}

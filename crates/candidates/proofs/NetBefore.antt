@@ -1,7 +1,7 @@
 -- The index of the net that precedes a net: found by left rows, at most one, and within the arrays. Assumes nothing.
 use Prim.Native.Nat.{ℕ, suc, _+_, _-_, _≤_, _<_}
 use mathlib.Core.Path.{_≡_, refl, sym, ap, _∙_}
-use mathlib.Core.Bool.{Bool, false, not}
+use mathlib.Core.Bool.{Bool, false}
 use mathlib.Core.List.{List, [], _∷_, _++_, map, map-append, List·Memᴰ, List·Memᴰ·head, List·Memᴰ·tail}
 use native.Mathlib.Omega.{arith}
 use lib.Dec.{eqb}
@@ -11,6 +11,8 @@ use borrow.Author.Tests.{eqb-true, eqb-false, ne-eqb}
 use Rattle.lists.specs.Lists.{Each, EachPair}
 use Rattle.lists.proofs.Cases.{by-test}
 use Rattle.lists.proofs.Laws.{Each-map}
+use Rattle.lists.proofs.Joins.{pair-across, EachPair-map}
+use Rattle.lists.proofs.Places.{take-more, mem-take, same-key, map-at}
 use Rattle.board.specs.declared.Net.{Net}
 use Rattle.board.specs.declared.StoredJob.{StoredJob}
 use Rattle.board.specs.Stored.{jobOf, noNet}
@@ -18,7 +20,7 @@ use Rattle.board.specs.Accepted.{AcceptedNet}
 use Rattle.board.specs.Tests.{isBefore}
 use Rattle.board.specs.Stored.{AcceptedStored}
 use Rattle.candidates.specs.Placed.{padded, indexFrom, precedingOf}
-use Rattle.candidates.proofs.Prefixes.{take-more, mem-take, pair-across, same-key, padded-more, map-at}
+use Rattle.candidates.proofs.Prefixes.{padded-more}
 
 module _ (f : Net → Bool) where
   -- none of the first passes
@@ -64,8 +66,7 @@ beforeIn ns n = indexFrom (λ m. isBefore m n) 0 ns
 
 -- numbers that rise differ
 pub numbers-differ : (ns : List Net) → EachPair (λ m n. m .number < n .number) ns → EachPair (λ m n. m .number ≡ n .number → ⊥) ns
-numbers-differ [] p = tt
-numbers-differ (n ∷ ns) p = (Each-map ns (λ m l e. omega arith) (p .0), numbers-differ ns (p .1))
+numbers-differ ns p = EachPair-map ns (λ m n l (e : m .number ≡ n .number). omega arith) p
 
 -- what is known of net i of an accepted job
 module _ (s : StoredJob) (accepted : AcceptedStored s) (size : length (s .nets) ≡ 512) (i : ℕ) (h : i < s .nnets) where

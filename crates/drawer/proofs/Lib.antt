@@ -1,4 +1,5 @@
 -- A plan drawn as the text of a layout.
+pub mod PlanSizes
 pub mod TextParts
 pub mod NetsByTop
 pub mod RowsWritten

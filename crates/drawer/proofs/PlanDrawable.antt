@@ -9,9 +9,11 @@ use lib.Dec.{eqb}
 use lib.ListN.{length, getD, take, length-map, replicate}
 use lib.Seq.{take-at}
 use borrow.Author.Tests.{eqb-true}
-use Rattle.lists.specs.Lists.{Each, EachPair}
+use Rattle.lists.specs.Lists.{EachPair}
 use Rattle.lists.proofs.Cases.{by-test, by-option}
-use Rattle.lists.proofs.Laws.{Each-map, Each-at}
+use Rattle.lists.proofs.Laws.{Each-at}
+use Rattle.lists.proofs.Joins.{Each-each, Each-mapped, EachPair-map, EachPair-mapped}
+use Rattle.lists.proofs.Places.{same-key}
 use Rattle.board.specs.Job.{Job}
 use Rattle.board.specs.Placement.{Placement, Legal}
 use Rattle.board.specs.Rival.{Placeable, Rival}
@@ -20,7 +22,6 @@ use Rattle.board.specs.Accepted.{AcceptedJob}
 use Rattle.routing.specs.Route.{routeLayout, routeText}
 use Rattle.planning.specs.Plan.{planOf}
 use Rattle.planning.proofs.PlanUnbeaten.{plan-unbeaten}
-use Rattle.candidates.proofs.Prefixes.{same-key}
 use Rattle.planner.specs.declared.Stand.the-variants.{Loose}
 use Rattle.planner.specs.declared.NetPlan.{NetPlan}
 use Rattle.planner.specs.JobPlans.{wireWith, standFrom, netPlanOf, noPlan, storedPlan, jobPlanOf}
@@ -33,22 +34,8 @@ pub plan-is-route : (job : Job) → AcceptedJob job → planText job (jobPlanOf 
 unfolding planText planLayout routeText routeLayout
 plan-is-route job a = rw (tracks-of-plan job a, loose-of-plan job)
 
--- ---- lists
-Each-mapped : {A B : Type 0} (P : B → Type 0) (f : A → B) (xs : List A) → ((x : A) → P (f x)) → Each P (map f xs)
-Each-mapped P f [] h = tt
-Each-mapped P f (x ∷ xs) h = (h x, Each-mapped P f xs h)
-
-Each-moved : {A B : Type 0} {P : A → Type 0} (Q : B → Type 0) (f : A → B) (xs : List A) → ((x : A) → P x → Q (f x)) → Each P xs → Each Q (map f xs)
-Each-moved Q f [] h a = tt
-Each-moved Q f (x ∷ xs) h a = (h x (a .0), Each-moved Q f xs h (a .1))
-
-EachPair-moved : {A B : Type 0} {R : A → A → Type 0} (S : B → B → Type 0) (f : A → B) (xs : List A) → ((x y : A) → R x y → S (f x) (f y)) → EachPair R xs → EachPair S (map f xs)
-EachPair-moved S f [] h a = tt
-EachPair-moved S f (x ∷ xs) h a = (Each-moved (S (f x)) f xs (λ y r. h x y r) (a .0), EachPair-moved S f xs h (a .1))
-
 rising-differ : (ps : List Placement) → EachPair (λ p q. p .top < q .top) ps → EachPair (λ p q. p .top ≡ q .top → ⊥) ps
-rising-differ [] a = tt
-rising-differ (p ∷ ps) a = (Each-map ps (λ q l (e : p .top ≡ q .top). omega arith) (a .0), rising-differ ps (a .1))
+rising-differ ps a = EachPair-map ps (λ p q l (e : p .top ≡ q .top). omega arith) a
 
 -- ---- where a net stands
 -- a wire of the net with number k, on the track at place i of tracks that begin with track t
@@ -142,6 +129,6 @@ module _ (job : Job) (a : AcceptedJob job) where
       let f = netPlanOf plan in
       let e = take-at (map f (job .nets)) (replicate (512 - length (job .nets)) noPlan) (length (job .nets)) (length-map (job .nets) f) in
       record {
-        each = rw e (Each-mapped (λ (p : NetPlan). DrawableStand (p .stand)) f (job .nets) (λ n. stand-drawable (n .number)));
-        apart = rw e (EachPair-moved OtherPlace f (job .nets) (λ n m l. stands-apart (n .number) (m .number) l) (a .numbers-rise));
+        each = rw e (Each-mapped f (λ (p : NetPlan). DrawableStand (p .stand)) (job .nets) (Each-each (job .nets) (λ n _. stand-drawable (n .number))));
+        apart = rw e (EachPair-mapped f OtherPlace (job .nets) (EachPair-map (job .nets) (λ n m l. stands-apart (n .number) (m .number) l) (a .numbers-rise)));
       }

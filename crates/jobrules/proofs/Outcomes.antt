@@ -1,19 +1,20 @@
--- The laws of the tests of a line, one after another: what a line leads to where all of them pass. Assumes nothing.
+-- The laws of the tests of a line, one after another: the first that fails gives the outcome, and what a line leads to where all of
+-- them pass. Assumes nothing.
 use Prim.Native.Nat.{ℕ, _≤_, _<_}
 use mathlib.Core.Path.{_≡_, refl}
 use mathlib.Core.Bool.{Bool, true, false, not}
 use native.Mathlib.Omega.{arith}
 use lib.Dec.{eqb, leb, ltb}
 use lib.ListN.{length}
-use borrow.Author.Tests.{ltb-true, le-leb, lt-leb}
+use borrow.Author.Tests.{ltb-true, lt-ltb, le-ltb, le-leb, lt-leb, eq-eqb}
 use Rattle.lists.specs.Lists.{allOf}
 use Rattle.board.specs.declared.Net.{Net}
 use Rattle.board.specs.declared.Block.{Block}
 use Rattle.board.specs.Job.{Job}
 use Rattle.board.specs.Length.{lengthOf, shortest, needed}
 use Rattle.jobfile.specs.declared.Outcome.{Outcome}
-use Rattle.jobfile.specs.declared.Outcome.the-variants.{Accepted, NoLength, TooFewRows}
-use Rattle.jobfile.specs.Read.{filled, Next, go, unless, netInRange, lastNumber, pinsFree, withNet, withBlock, addNet, addBlock}
+use Rattle.jobfile.specs.declared.Outcome.the-variants.{Accepted, OutOfRange, TooMany, NumberNotAbove, PinUsed, SameRow, NoLength, TooFewRows}
+use Rattle.jobfile.specs.Read.{filled, Next, go, unless, netInRange, blockInRange, lastNumber, pinsFree, withNet, withBlock, addNet, addBlock}
 use Rattle.jobfile.specs.Answers.{numberOf}
 use Rattle.jobrules.specs.Rules.{outcomeOf}
 
@@ -24,7 +25,39 @@ test-yes {x} {y} m e h = le-leb y m (omega arith)
 pub test-no : {x y : ℕ} (m : ℕ) → x ≡ y → m < x → leb y m ≡ false
 test-no {x} {y} m e h = lt-leb y m (omega arith)
 
--- ---- the outcome of a net that passes the tests 3 to 7
+pub test-below : {x y m : ℕ} → x ≡ y → x < m → ltb y m ≡ true
+test-below {x} {y} {m} e h = lt-ltb y m (omega arith)
+
+pub test-not-below : {x y m : ℕ} → x ≡ y → m ≤ x → ltb y m ≡ false
+test-not-below {x} {y} {m} e h = le-ltb y m (omega arith)
+
+-- ---- the outcome of a net: the first of the tests 3 to 7 that fails
+
+module _ (k : ℕ) (n : Net) (job : Job) where
+  pub fails-3 : netInRange (job .board) n ≡ false → OutOfRange k ≡ outcomeOf (addNet k n job)
+  unfolding outcomeOf addNet unless
+  fails-3 e = rw e
+
+  module _ (ranges : netInRange (job .board) n ≡ true) where
+    pub fails-4 : ltb (length (job .nets)) 512 ≡ false → TooMany k ≡ outcomeOf (addNet k n job)
+    unfolding outcomeOf addNet unless
+    fails-4 e = rw (ranges, e)
+
+    module _ (few : ltb (length (job .nets)) 512 ≡ true) where
+      pub fails-5 : ltb (lastNumber 0 (job .nets)) (n .number) ≡ false → NumberNotAbove k ≡ outcomeOf (addNet k n job)
+      unfolding outcomeOf addNet unless
+      fails-5 e = rw (ranges, few, e)
+
+      module _ (above : ltb (lastNumber 0 (job .nets)) (n .number) ≡ true) where
+        pub fails-6 : allOf (pinsFree n) (job .nets) ≡ false → PinUsed k ≡ outcomeOf (addNet k n job)
+        unfolding outcomeOf addNet unless
+        fails-6 e = rw (ranges, few, above, e)
+
+        pub fails-7 : allOf (pinsFree n) (job .nets) ≡ true → n .left .0 ≡ n .right .0 → SameRow k ≡ outcomeOf (addNet k n job)
+        unfolding outcomeOf addNet unless
+        fails-7 free e = rw (ranges, few, above, free, eq-eqb (n .left .0) (n .right .0) e)
+
+-- ---- and of one that passes them
 
 pub record Passes7 (n : Net) (job : Job) : Type 0 where
   pub ranges : netInRange (job .board) n ≡ true
@@ -46,6 +79,22 @@ module _ (k : ℕ) (n : Net) (job : Job) (p : Passes7 n job) where
     pub passes-9 : leb (needed (job .board) n) (job .board .rows) ≡ true → Accepted ≡ outcomeOf (addNet k n job)
     unfolding outcomeOf addNet unless
     passes-9 f = rw (p .ranges, p .few, p .above, p .free, p .differ, e, f)
+
+-- ---- the outcome of a block
+
+module _ (k : ℕ) (b : Block) (job : Job) where
+  pub block-fails-3 : blockInRange (job .board) b ≡ false → OutOfRange k ≡ outcomeOf (addBlock k b job)
+  unfolding outcomeOf addBlock unless
+  block-fails-3 e = rw e
+
+  module _ (ranges : blockInRange (job .board) b ≡ true) where
+    pub block-fails-4 : ltb (length (job .blocks)) 256 ≡ false → TooMany k ≡ outcomeOf (addBlock k b job)
+    unfolding outcomeOf addBlock unless
+    block-fails-4 e = rw (ranges, e)
+
+    pub block-passes-4 : ltb (length (job .blocks)) 256 ≡ true → Accepted ≡ outcomeOf (addBlock k b job)
+    unfolding outcomeOf addBlock unless
+    block-passes-4 e = rw (ranges, e)
 
 -- ---- where all tests pass
 

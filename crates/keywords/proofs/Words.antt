@@ -10,6 +10,8 @@ use lib.Seq.{drop-cons}
 use borrow.Author.Tests.{not-true}
 use Rattle.lists.specs.Lists.{allOf, allPairs}
 use Rattle.lists.proofs.Cases.{by-test, and-split}
+use Rattle.lists.proofs.Laws.{allOf-at}
+use Rattle.lists.proofs.Places.{mem-at}
 use Rattle.text.specs.Bytes.{same}
 use Rattle.text.proofs.Bytes.{same-refl, same-true}
 use Rattle.keywords.specs.Keywords.{words, wordOf, findFrom, findWord}
@@ -63,12 +65,6 @@ find-word v s h =
 
 -- And back: no two words of a table are the same, so each is found at its own place
 
-allOf-getD : {A : Type 0} (f : A → Bool) (xs : List A) (i : ℕ) (d : A) → allOf f xs ≡ true → i < length xs → f (getD xs i d) ≡ true
-unfolding allOf
-allOf-getD f [] i d a h = absurd (omega arith)
-allOf-getD f (x ∷ xs) zero d a h = and-split (f x) (allOf f xs) a .0
-allOf-getD f (x ∷ xs) (suc i) d a h = allOf-getD f xs i d (and-split (f x) (allOf f xs) a .1) (omega arith)
-
 -- two words are not the same
 differ : List ℕ → List ℕ → Bool
 differ w u = not (same u w)
@@ -84,7 +80,7 @@ find-own k [] i a h = absurd (omega arith)
 find-own k (w ∷ ws) zero a h = rw (same-refl w) (omega arith)
 find-own k (w ∷ ws) (suc i) a h =
     let p = and-split (allOf (differ w) ws) (allPairs differ ws) a in
-    rw (not-true (same (getD ws i []) w) (allOf-getD (differ w) ws i [] (p .0) (omega arith)))
+    rw (not-true (same (getD ws i []) w) (allOf-at (differ w) ws (getD ws i []) (p .0) (mem-at ws i [] (omega arith))))
     (find-own (suc k) ws i (p .1) (omega arith) ∙ omega arith)
 
 pub word-find : (v : Vocabulary) (i : ℕ) → i < length (words v) → findWord v (wordOf v i) ≡ i

@@ -4,7 +4,7 @@ use mathlib.Core.Bool.{Bool, true, false, _&&_, and-assoc, true≢false}
 use mathlib.Core.List.{List, [], _∷_, _++_, map, List·Memᴰ, List·Memᴰ·head, List·Memᴰ·tail}
 use Rattle.lists.specs.Lists.{Each, EachPair, allOf}
 use Rattle.lists.proofs.Cases.{by-test}
-use Rattle.lists.proofs.Laws.{Each-map}
+use Rattle.lists.proofs.Laws.{Each-map, Each-both}
 
 module _ {A : Type 0} where
   -- P holds of every element where it holds of each that is listed
@@ -41,13 +41,26 @@ module _ {A : Type 0} where
   EachPair-across R [] ys a = tt
   EachPair-across R (x ∷ xs) ys a = (Each-right (R x) xs ys (a .0), EachPair-across R xs ys (a .1))
 
+  -- the elements of the first part and the first one of the second
+  pub pair-across : (R : A → A → Type 0) (xs : List A) (y : A) (ys : List A) → EachPair R (xs ++ (y ∷ ys)) → Each (λ x. R x y) xs
+  pair-across R xs y ys p = Each-map xs (λ x (a : Each (R x) (y ∷ ys)). a .0) (EachPair-across R xs (y ∷ ys) p)
+
   pub EachPair-map : {R S : A → A → Type 0} (xs : List A) → ((x y : A) → R x y → S x y) → EachPair R xs → EachPair S xs
   EachPair-map [] f a = tt
   EachPair-map (x ∷ xs) f a = (Each-map xs (f x) (a .0), EachPair-map xs f (a .1))
 
+  -- what two elements, each with P, have by R
+  pub EachPair-both : {P : A → Type 0} {R S : A → A → Type 0} (xs : List A) → ((x y : A) → P x → P y → R x y → S x y) → Each P xs → EachPair R xs → EachPair S xs
+  EachPair-both [] f a r = tt
+  EachPair-both (x ∷ xs) f a r = (Each-both xs (λ y p q. f x y (a .0) p q) (a .1) (r .0), EachPair-both xs f (a .1) (r .1))
+
 pub Each-mapped : {A B : Type 0} (f : A → B) (P : B → Type 0) (xs : List A) → Each (λ x. P (f x)) xs → Each P (map f xs)
 Each-mapped f P [] a = tt
 Each-mapped f P (x ∷ xs) a = (a .0, Each-mapped f P xs (a .1))
+
+pub EachPair-mapped : {A B : Type 0} (f : A → B) (R : B → B → Type 0) (xs : List A) → EachPair (λ x y. R (f x) (f y)) xs → EachPair R (map f xs)
+EachPair-mapped f R [] a = tt
+EachPair-mapped f R (x ∷ xs) a = (Each-mapped f (R (f x)) xs (a .0), EachPair-mapped f R xs (a .1))
 
 -- a test on all elements of two lists in a row
 pub allOf-append : {A : Type 0} (f : A → Bool) (s t : List A) → allOf f (s ++ t) ≡ (allOf f s && allOf f t)

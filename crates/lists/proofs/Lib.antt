@@ -2,3 +2,4 @@
 pub mod Cases
 pub mod Laws
 pub mod Joins
+pub mod Places

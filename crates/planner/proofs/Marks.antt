@@ -1,7 +1,7 @@
 -- An array with an entry for each net, after a wire's entry is stored for each wire of a track: the nets with a wire have that entry, the
 -- others keep theirs. Assumes nothing.
 use Prim.Native.Nat.{ℕ, zero, suc, _<_}
-use mathlib.Core.Path.{_≡_, refl, sym, ap, ap₂, _∙_}
+use mathlib.Core.Path.{_≡_, refl, sym, ap, _∙_}
 use mathlib.Core.Bool.{true, false, cond}
 use mathlib.Core.Option.{Option, none, some}
 use mathlib.Core.List.{List, [], _∷_, _++_, map, List·Memᴰ, List·Memᴰ·head, List·Memᴰ·tail}
@@ -12,14 +12,11 @@ use borrow.Author.Tests.{eqb-true, eq-eqb, ne-eqb}
 use Rattle.lists.specs.Lists.{Each, EachPair, firstOf}
 use Rattle.lists.proofs.Cases.{by-test}
 use Rattle.lists.proofs.Laws.{Each-at}
+use Rattle.lists.proofs.Places.{map-same}
 use Rattle.board.specs.declared.Net.{Net}
 use Rattle.board.specs.Placement.{Placement}
 use Rattle.planner.specs.JobPlans.{wireWith}
 use Rattle.planner.proofs.ChoiceRows.{IndexOf}
-
-pub map-same : {A B : Type 0} (f g : A → B) (xs : List A) → ((x : A) → List·Memᴰ x xs → f x ≡ g x) → map f xs ≡ map g xs
-map-same f g [] h = refl
-map-same f g (x ∷ xs) h = ap₂ _∷_ (h x (List·Memᴰ·head refl)) (map-same f g xs (λ y m. h y (List·Memᴰ·tail m)))
 
 index-mem : (ns : List Net) (n : Net) (i : ℕ) → IndexOf ns n i → List·Memᴰ n ns
 index-mem [] n i r = absurd (omega (arith, r .below))

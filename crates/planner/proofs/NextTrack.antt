@@ -7,6 +7,7 @@ use mathlib.Core.List.{List, [], _∷_, _++_, map}
 use native.Mathlib.Omega.{arith}
 use lib.Dec.{eqb}
 use lib.ListN.{length, getD, replicate, length-map, List·getD-append}
+use Rattle.lists.proofs.Places.{map-at}
 use Rattle.board.specs.declared.Net.{Net}
 use Rattle.board.specs.Job.{Job}
 use Rattle.board.specs.Stored.{noNet}
@@ -16,7 +17,6 @@ use Rattle.board.specs.Accepted.{AcceptedJob}
 use Rattle.candidates.specs.declared.Candidates.{Candidates}
 use Rattle.candidates.specs.Placed.{Placed}
 use Rattle.candidates.specs.Gathered.{Gathered, GatheredFrom}
-use Rattle.candidates.proofs.Prefixes.{map-at}
 use Rattle.planner.specs.declared.Progress.{Progress}
 use Rattle.planner.specs.JobPlans.{standFrom, netPlanOf, noPlan, storedPlan, jobPlanOf}
 use Rattle.planner.specs.Progressed.{placedOn, progressOf, noProgress, firstTracks, onFirst, progressTo, OnTurn}

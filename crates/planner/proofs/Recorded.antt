@@ -8,7 +8,9 @@ use native.Mathlib.Omega.{arith}
 use lib.ListN.{length, set, replicate}
 use Rattle.lists.specs.Lists.{Each, EachPair}
 use Rattle.lists.proofs.Cases.{by-option}
-use Rattle.lists.proofs.Laws.{Each-map, Each-both, Each-at}
+use Rattle.lists.proofs.Laws.{Each-map, Each-at}
+use Rattle.lists.proofs.Joins.{EachPair-both}
+use Rattle.lists.proofs.Places.{map-same}
 use Rattle.board.specs.declared.Net.{Net}
 use Rattle.board.specs.Job.{Job}
 use Rattle.board.specs.Placement.{Placement}
@@ -26,14 +28,9 @@ use Rattle.planner.specs.declared.Stand.{Stand}
 use Rattle.planner.specs.JobPlans.{wireWith, standFrom, noPlan, storedPlan}
 use Rattle.planner.specs.Progressed.{trackOf, progressOf, firstTracks, onFirst, progressTo}
 use Rattle.planner.proofs.ChoiceRows.{IndexOf, index-of}
-use Rattle.planner.proofs.Marks.{map-same, marked, withWires, marked-all, with-map}
+use Rattle.planner.proofs.Marks.{marked, withWires, marked-all, with-map}
 use Rattle.planner.proofs.Stands.{wired, wire-found, stand-kept, stand-new}
 use Rattle.planner.proofs.FirstTracks.{first-length, first-next}
-
--- what two elements, each with P, have by R
-EachPair-both : {A : Type 0} {P : A → Type 0} {R S : A → A → Type 0} (xs : List A) → ((x y : A) → P x → P y → R x y → S x y) → Each P xs → EachPair R xs → EachPair S xs
-EachPair-both [] f a r = tt
-EachPair-both (x ∷ xs) f a r = (Each-both xs (λ y p q. f x y (a .0) p q) (a .1) (r .0), EachPair-both xs f (a .1) (r .1))
 
 -- the sum of one more track
 sums-put : (trs : List FilledTrack) (tr : FilledTrack) (room : ℕ) →

@@ -13,6 +13,7 @@ use borrow.Author.Tests.{eqb-true, eq-eqb, ne-eqb}
 use Rattle.lists.specs.Lists.{EachPair}
 use Rattle.lists.proofs.Cases.{by-option}
 use Rattle.lists.proofs.Laws.{Each-map, Each-at, firstOf-some, firstOf-none}
+use Rattle.lists.proofs.Places.{same-key}
 use Rattle.board.specs.declared.Net.{Net}
 use Rattle.board.specs.Job.{Job}
 use Rattle.board.specs.Placement.{Placement}
@@ -21,7 +22,6 @@ use Rattle.board.specs.Unbeaten.{FilledTrack, emptyTrack}
 use Rattle.board.specs.Accepted.{AcceptedJob}
 use Rattle.packing.specs.Walk.{wiresOf}
 use Rattle.planning.specs.Plan.{filledTrack, planOf}
-use Rattle.candidates.proofs.Prefixes.{same-key}
 use Rattle.planner.specs.declared.Stand.{Stand}
 use Rattle.planner.specs.declared.Stand.the-variants.{Loose, Wired}
 use Rattle.planner.specs.declared.NetPlan.{NetPlan}

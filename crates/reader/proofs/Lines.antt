@@ -1,7 +1,7 @@
 -- What a line of each form leads to, in its place and out of it. Assumes nothing.
 use Prim.Native.Nat.{ℕ, zero, suc}
 use mathlib.Core.Path.{_≡_, refl, sym, ap, _∙_}
-use mathlib.Core.Bool.{true, false, true≢false}
+use mathlib.Core.Bool.{Bool, true, false, true≢false}
 use lib.Dec.{eqb}
 use borrow.Author.Tests.{eqb-true}
 use Rattle.board.specs.declared.StoredJob.{StoredJob}
@@ -28,6 +28,27 @@ pub taken-is : (x : Next) (job : Job) (o : Outcome) (w : StoredJob) → x ≡ go
     record { outcome = o; stage = 3; job = w } ≡ linesTakenOf x
 unfolding outcomeOf linesTakenOf
 taken-is x job o w e f g = rw (f, g, e)
+
+-- a test of a line: it is refused where the test fails, and goes on where it passes
+
+pub fails-test : (passed : Bool) (o : Outcome) (x : Next) → passed ≡ false → linesTakenOf (stop o) ≡ linesTakenOf (unless passed o x)
+unfolding unless
+fails-test passed o x e = rw e
+
+pub passes-test : (passed : Bool) (o : Outcome) (x : Next) (w : LinesTaken) → passed ≡ true → w ≡ linesTakenOf x →
+    w ≡ linesTakenOf (unless passed o x)
+unfolding unless
+passes-test passed o x w e g = rw e g
+
+-- what the code holds behind `(rows H)`, and behind `(tracks K)`
+
+pub rows-held : (h : ℕ) (w : StoredJob) → w ≡ storedOf (emptyBoard (boardOf h 0)) → onward 2 w ≡ linesTakenOf (go (sized h))
+unfolding linesTakenOf
+rows-held h w e = ap (onward 2) e
+
+pub tracks-held : (job : Job) (w : StoredJob) → w ≡ storedOf job → onward 3 w ≡ linesTakenOf (go (filled job))
+unfolding linesTakenOf
+tracks-held job w e = ap (onward 3) e
 
 -- a form out of its place
 

@@ -2,4 +2,5 @@
 pub mod Bytes
 pub mod Numbers
 pub mod Writing
+pub mod Runs
 pub mod Reading

@@ -2,3 +2,4 @@
 pub mod Bytes
 pub mod Digits
 pub mod Written
+pub mod Runs

@@ -1,10 +1,9 @@
 -- `candidates::block_map` meets its contract: before each turn of the loop the rows set are those that the blocks passed close. Assumes nothing.
 use Prim.Native.Nat.{_≤_, _-_}
-use mathlib.Core.Path.{_≡_}
 use native.Mathlib.Omega.{arith}
-use lib.ListN.{length, set, take}
+use lib.ListN.{take}
 use Rattle.board.specs.Stored.{noBlock}
-use Rattle.candidates.proofs.Prefixes.{length-mapped}
+use Rattle.candidates.proofs.ArraySizes.{block-size}
 use Rattle.candidates.proofs.TrackBlocks.{MapFrom, map-none, map-more, map-all, block-range}
 use borrow.Author.Needs.{needs}
 use Rattle.candidates.proofs.block_map.Statement.{statement}
@@ -15,9 +14,6 @@ Inv-loop track job nblocks map₀ i₀ map i = (i ≤ nblocks) × MapFrom (map .
 
 abbrev μ-loop : tie.MeasureT-loop
 μ-loop track job nblocks map₀ i₀ map i = nblocks - i
-
-block-size : (s : tie.Start Inv-loop μ-loop) → length (s .args .t1 .blocks) ≡ 256
-block-size s = search (needs, length-mapped)
 
 no-rows-requires : tie.Need-no-rows-requires Inv-loop μ-loop
 no-rows-requires c κs = search needs
@@ -36,7 +32,7 @@ element-copy-out-block c = search needs
 with-block-on-requires : tie.Need-with-block-on-requires Inv-loop μ-loop
 with-block-on-requires c κs =
     let s = c .before .before .before .before in
-    let l : length (s .args .t1 .blocks) ≡ 256 = block-size s in
+    let l = block-size (s .args .t1) (s .good .0) in
     let r = block-range (s .args .t1) (c .before .before .loop .i) (s .pre) l (omega arith) in
     let h = s .pre .accepted .board-range in
     (r .first-range, r .in-order, omega arith)
@@ -52,7 +48,7 @@ loop-again c =
     let s = c .before .before .before .before .before in
     let a = s .args in
     let l = c .before .before .before .loop in
-    let e : length (a .t1 .blocks) ≡ 256 = block-size s in
+    let e = block-size (s .args .t1) (s .good .0) in
     (omega arith, map-more (l .map .words) (c .with-block-on .result .words) (a .track .0) (a .t1 .blocks) (l .i) noBlock (omega arith) (l .inv .1) (c .with-block-on .ensures))
 
 returns : tie.Need-returns Inv-loop μ-loop

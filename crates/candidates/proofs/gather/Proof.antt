@@ -3,13 +3,13 @@ use Prim.Native.Nat.{_≤_, _-_}
 use mathlib.Core.Bool.{true, false}
 use mathlib.Core.Path.{_≡_, sym, _∙_}
 use native.Mathlib.Omega.{arith}
-use lib.ListN.{length, getD}
+use lib.ListN.{getD}
 use borrow.Author.Tests.{not-true, not-false}
 use Rattle.board.specs.Stored.{noNet, jobOf}
 use Rattle.candidates.specs.Placed.{eligibleAt, precedingOf}
 use Rattle.candidates.proofs.TrackBlocks.{none-blocked}
 use Rattle.candidates.proofs.Gathering.{tops-range, Passed, passed-none, passed-skip, passed-take, passed-count, passed-all}
-use Rattle.candidates.proofs.Prefixes.{length-mapped}
+use Rattle.candidates.proofs.ArraySizes.{net-size}
 use Rattle.candidates.proofs.NetBefore.{before-range, net-accepted}
 use borrow.Author.Needs.{needs}
 use Rattle.candidates.proofs.gather.Statement.{statement}
@@ -20,9 +20,6 @@ Inv-loop before placed flags₀ job board nnets any map found₀ i₀ flags foun
 
 abbrev μ-loop : tie.MeasureT-loop
 μ-loop before placed flags₀ job board nnets any map found₀ i₀ flags found i = nnets - i
-
-net-size : (s : tie.Start Inv-loop μ-loop) → length (s .args .t1 .nets) ≡ 512
-net-size s = search (needs, length-mapped)
 
 has-blocks-requires : tie.Need-has-blocks-requires Inv-loop μ-loop
 has-blocks-requires c κs = search needs
@@ -38,7 +35,7 @@ loop-holds c =
     let s = c .before .before .before .before .before in
     let words = c .before .block-map .result .words in
     let none = passed-none (s .args .t1) (s .args .placed .now) words (s .args .flags .now) (c .no-candidates .result) (c .no-candidates .ensures (s .args .t1 .board)) in
-    (omega arith, passed-count (s .args .t1) (s .pre .0) (net-size s) (s .args .placed .now) words (s .args .flags .now) (c .no-candidates .result) (s .args .flags .now) 0 (omega arith) none, none)
+    (omega arith, passed-count (s .args .t1) (s .pre .0) (net-size (s .args .t1) (s .good .0)) (s .args .placed .now) words (s .args .flags .now) (c .no-candidates .result) (s .args .flags .now) 0 (omega arith) none, none)
 
 mul-is-eligible : tie.Need-mul-is-eligible Inv-loop μ-loop
 mul-is-eligible c = search needs
@@ -50,7 +47,7 @@ is-eligible-requires : tie.Need-is-eligible-requires Inv-loop μ-loop
 is-eligible-requires c κs =
     let s = c .before .before .before .before .before .before .before .before in
     let i = c .before .before .loop .i in
-    let r = before-range (s .args .t1) (s .pre .0) (net-size s) i (omega arith) in
+    let r = before-range (s .args .t1) (s .pre .0) (net-size (s .args .t1) (s .good .0)) i (omega arith) in
     (rw (s .pre .1 .0) r, omega arith)
 
 add-i : tie.Need-add-i Inv-loop μ-loop
@@ -65,7 +62,7 @@ loop-again c =
     let l = c .before .before .before .before .loop in
     let ready : eligibleAt (getD (precedingOf (jobOf (s .args .t1))) (l .i) 0) (s .args .placed .now) (l .i) ≡ false =
     rw (s .pre .1 .0) at (sym (c .before .is-eligible .ensures) ∙ not-true _ (c .if1 .taken)) in
-    (omega arith, omega arith, passed-skip (s .args .t1) (s .pre .0) (net-size s) (s .args .placed .now) (c .before .before .before .before .before .before .block-map .result .words) (s .args .flags .now) (l .found) (l .flags) (l .i) (omega arith) (l .inv .2) ready)
+    (omega arith, omega arith, passed-skip (s .args .t1) (s .pre .0) (net-size (s .args .t1) (s .good .0)) (s .args .placed .now) (c .before .before .before .before .before .before .block-map .result .words) (s .args .flags .now) (l .found) (l .flags) (l .i) (omega arith) (l .inv .2) ready)
 
 mul-net : tie.Need-mul-net Inv-loop μ-loop
 mul-net c = search needs
@@ -77,14 +74,14 @@ tops-of-requires : tie.Need-tops-of-requires Inv-loop μ-loop
 tops-of-requires c κs =
     let s = c .before .before .before .before .before .before .before .before .before .before .before in
     let l = c .before .before .before .before .before .loop in
-    (s .pre .0 .accepted .board-range, net-accepted (s .args .t1) (s .pre .0) (net-size s) (l .i) (omega arith))
+    (s .pre .0 .accepted .board-range, net-accepted (s .args .t1) (s .pre .0) (net-size (s .args .t1) (s .good .0)) (l .i) (omega arith))
 
 flag-part-requires : tie.Need-flag-part-requires Inv-loop μ-loop
 flag-part-requires c κs =
     let s = c .before .before .before .before .before .before .before .before .before .before .before .before .before in
     let l = c .before .before .before .before .before .before .before .loop in
     let job = s .args .t1 in
-    let n = net-accepted job (s .pre .0) (net-size s) (l .i) (omega arith) in (
+    let n = net-accepted job (s .pre .0) (net-size (s .args .t1) (s .good .0)) (l .i) (omega arith) in (
       λ e row. c .before .before .before .before .before .before .before .before .before .block-map .ensures row ∙ none-blocked (jobOf job) (s .args .track .0) (sym (c .before .before .before .before .before .before .before .before .before .before .has-blocks .ensures) ∙ e) row,
       (
         tops-range (job .board) (getD (job .nets) (l .i) noNet) (c .before .tops-of .result) (s .pre .0 .accepted .board-range) n (c .before .tops-of .ensures),
@@ -140,7 +137,7 @@ loop-again-2 c =
     rw (s .pre .1 .0) at (sym (c .before .before .before .before .before .before .before .is-eligible .ensures) ∙ not-false _ (c .before .before .before .before .before .before .if1 .left)) in (
       omega arith,
       omega arith,
-      passed-take job (s .pre .0) (net-size s) (s .args .placed .now) (c .before .before .before .before .before .before .before .before .before .before .before .before .block-map .result .words) (s .args .flags .now) (l .found) (l .flags) (l .i) (omega arith)
+      passed-take job (s .pre .0) (net-size (s .args .t1) (s .good .0)) (s .args .placed .now) (c .before .before .before .before .before .before .before .before .before .before .before .before .block-map .result .words) (s .args .flags .now) (l .found) (l .flags) (l .i) (omega arith)
           (s .pre .1 .1) (l .inv .2) ready (c .before .before .before .before .tops-of .result) (c .before .before .before .before .tops-of .ensures) _ (c .before .before .flag-part .ensures),
     )
 
@@ -151,7 +148,7 @@ returns : tie.Need-returns Inv-loop μ-loop
 returns c =
     let s = c .before .before .before .before .before .before .before in
     let l = c .before .loop in
-    passed-all (s .args .t1) (s .pre .0) (net-size s) (s .args .placed .now) (c .before .before .before .block-map .result .words) (s .args .flags .now) (l .found) (l .flags) (l .i) (s .args .track .0)
+    passed-all (s .args .t1) (s .pre .0) (net-size (s .args .t1) (s .good .0)) (s .args .placed .now) (c .before .before .before .block-map .result .words) (s .args .flags .now) (l .found) (l .flags) (l .i) (s .args .track .0)
     (c .before .before .before .block-map .ensures) (s .pre .1 .1) (omega arith) (omega arith) (l .inv .2)
 
 pub gather-spec : {M : Type 1} → statement M

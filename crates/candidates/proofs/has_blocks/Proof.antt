@@ -4,11 +4,11 @@ use mathlib.Core.Path.{refl, _≡_}
 use mathlib.Core.Bool.{false}
 use native.Mathlib.Omega.{arith}
 use lib.Dec.{eqb}
-use lib.ListN.{length, getD, take}
+use lib.ListN.{getD, take}
 use borrow.Author.Tests.{ne-eqb}
 use Rattle.lists.specs.Lists.{anyOf}
 use Rattle.board.specs.Stored.{noBlock}
-use Rattle.candidates.proofs.Prefixes.{length-mapped}
+use Rattle.candidates.proofs.ArraySizes.{block-size}
 use Rattle.candidates.proofs.TrackBlocks.{found-more, has-found, has-none}
 use borrow.Author.Needs.{needs}
 use Rattle.candidates.proofs.has_blocks.Statement.{statement}
@@ -19,9 +19,6 @@ Inv-loop track job nblocks i₀ i = (i ≤ nblocks) × (anyOf (λ b. eqb (b .tra
 
 abbrev μ-loop : tie.MeasureT-loop
 μ-loop track job nblocks i₀ i = nblocks - i
-
-block-size : (s : tie.Start Inv-loop μ-loop) → length (s .args .t1 .blocks) ≡ 256
-block-size s = search (needs, length-mapped)
 
 loop-holds : tie.Need-loop-holds Inv-loop μ-loop
 unfolding anyOf
@@ -37,7 +34,7 @@ returns : tie.Need-returns Inv-loop μ-loop
 returns c =
     let s = c .before .before .before .before .before .before in
     let l = c .before .before .before .before .before .loop in
-    let len : length (s .args .t1 .blocks) ≡ 256 = block-size s in
+    let len = block-size (s .args .t1) (s .good .0) in
     has-found (s .args .t1) (s .args .track .0) (l .i) (s .pre) len (omega arith) (c .if1 .taken)
 
 add-i : tie.Need-add-i Inv-loop μ-loop
@@ -50,7 +47,7 @@ loop-again : tie.Need-loop-again Inv-loop μ-loop
 loop-again c =
     let s = c .before .before .before .before .before .before in
     let l = c .before .before .before .before .before .loop in
-    let len : length (s .args .t1 .blocks) ≡ 256 = block-size s in
+    let len = block-size (s .args .t1) (s .good .0) in
     (omega arith, found-more (s .args .t1 .blocks) (s .args .track .0) (l .i) noBlock (omega arith) (l .inv .1) (ne-eqb (getD (s .args .t1 .blocks) (l .i) noBlock .track .0) (s .args .track .0) (c .if1 .left)))
 
 returns-2 : tie.Need-returns-2 Inv-loop μ-loop

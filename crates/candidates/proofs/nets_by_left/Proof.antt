@@ -4,7 +4,7 @@ use mathlib.Core.Path.{_≡_, refl}
 use native.Mathlib.Omega.{arith}
 use lib.ListN.{getD, length, take}
 use Rattle.board.specs.Stored.{noNet}
-use Rattle.candidates.proofs.Prefixes.{length-mapped}
+use Rattle.candidates.proofs.ArraySizes.{net-size}
 use Rattle.candidates.proofs.NetBefore.{ByLeft, by-left-none, by-left-more, by-left-all, pin-rows}
 use borrow.Author.Needs.{needs}
 use Rattle.candidates.proofs.nets_by_left.Statement.{statement}
@@ -16,16 +16,13 @@ Inv-loop job nnets by-left₀ i₀ by-left i = (i ≤ nnets) × (length by-left 
 abbrev μ-loop : tie.MeasureT-loop
 μ-loop job nnets by-left₀ i₀ by-left i = nnets - i
 
-net-size : (s : tie.Start Inv-loop μ-loop) → length (s .args .t1 .nets) ≡ 512
-net-size s = search (needs, length-mapped)
-
 -- the pins of the net at hand are on rows
 on-rows : (c : tie.After-struct-known Inv-loop μ-loop) →
     let n = getD (c .before .before .before .before .args .t1 .nets) (c .before .before .before .loop .i) noNet in
     (1 ≤ n .left .0) × (n .left .0 ≤ 1024) × (1 ≤ n .right .0) × (n .right .0 ≤ 1024)
 on-rows c =
     let s = c .before .before .before .before in
-    pin-rows (s .args .t1) (s .pre) (net-size s) (c .before .before .before .loop .i) (omega arith)
+    pin-rows (s .args .t1) (s .pre) (net-size (s .args .t1) (s .good .0)) (c .before .before .before .loop .i) (omega arith)
 
 loop-holds : tie.Need-loop-holds Inv-loop μ-loop
 loop-holds c = (omega arith, refl, by-left-none (c .args .t1 .nets))
@@ -55,7 +52,7 @@ loop-again : tie.Need-loop-again Inv-loop μ-loop
 loop-again c =
     let s = c .before .before .before .before in
     let l = c .before .before .before .loop in
-    (omega arith, search needs, by-left-more (s .args .t1) (s .pre) (net-size s) (l .i) (omega arith) (l .by-left) (l .inv .1) (l .inv .2))
+    (omega arith, search needs, by-left-more (s .args .t1) (s .pre) (net-size (s .args .t1) (s .good .0)) (l .i) (omega arith) (l .by-left) (l .inv .1) (l .inv .2))
 
 returns : tie.Need-returns Inv-loop μ-loop
 returns c =

@@ -6,7 +6,7 @@ use native.Mathlib.Omega.{arith}
 use lib.ListN.{getD, length, take}
 use Rattle.board.specs.Stored.{noNet, jobOf}
 use Rattle.candidates.specs.Placed.{padded}
-use Rattle.candidates.proofs.Prefixes.{length-mapped}
+use Rattle.candidates.proofs.ArraySizes.{net-size}
 use Rattle.candidates.proofs.NetBefore.{beforeIn, before-none, before-more, before-all, pin-rows}
 use borrow.Author.Needs.{needs}
 use Rattle.candidates.proofs.preceding.Statement.{statement}
@@ -18,16 +18,13 @@ Inv-loop job nnets by-left before₀ i₀ before i = (i ≤ nnets) × (length be
 abbrev μ-loop : tie.MeasureT-loop
 μ-loop job nnets by-left before₀ i₀ before i = nnets - i
 
-net-size : (s : tie.Start Inv-loop μ-loop) → length (s .args .t1 .nets) ≡ 512
-net-size s = search (needs, length-mapped)
-
 -- the pins of the net at hand are on rows
 on-rows : (c : tie.After-struct-known Inv-loop μ-loop) →
     let n = getD (c .before .before .before .before .before .args .t1 .nets) (c .before .before .before .loop .i) noNet in
     (1 ≤ n .left .0) × (n .left .0 ≤ 1024) × (1 ≤ n .right .0) × (n .right .0 ≤ 1024)
 on-rows c =
     let s = c .before .before .before .before .before in
-    pin-rows (s .args .t1) (s .pre) (net-size s) (c .before .before .before .loop .i) (omega arith)
+    pin-rows (s .args .t1) (s .pre) (net-size (s .args .t1) (s .good .0)) (c .before .before .before .loop .i) (omega arith)
 
 nets-by-left-requires : tie.Need-nets-by-left-requires Inv-loop μ-loop
 nets-by-left-requires c κs = search needs
@@ -69,7 +66,7 @@ loop-again c =
     let s = c .before .before .before .before .before in
     let l = c .before .before .before .loop in
     let by = c .before .before .before .before .nets-by-left in
-    (omega arith, search needs, before-more (s .args .t1) (s .pre) (net-size s) (l .i) (omega arith) (by .result) (l .before) (by .ensures) (l .inv .2))
+    (omega arith, search needs, before-more (s .args .t1) (s .pre) (net-size (s .args .t1) (s .good .0)) (l .i) (omega arith) (by .result) (l .before) (by .ensures) (l .inv .2))
 
 returns : tie.Need-returns Inv-loop μ-loop
 returns c =

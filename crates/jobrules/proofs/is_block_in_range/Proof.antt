@@ -1,7 +1,7 @@
 -- `jobrules::is_block_in_range` meets its contract: one test after another. Assumes nothing.
 use mathlib.Core.Path.{sym, _∙_}
 use borrow.Author.Tests.{not-true, not-false}
-use Rattle.jobfile.specs.Read.{blockInRange}
+use Rattle.jobrules.proofs.Ranges.{track-outside, first-outside, last-outside, order-decides}
 use borrow.Author.Needs.{needs}
 use Rattle.jobrules.proofs.is_block_in_range.Statement.{statement}
 use Rattle.jobrules.proofs.is_block_in_range.Tie as tie
@@ -10,40 +10,39 @@ is-within-requires : tie.Need-is-within-requires
 is-within-requires c κs = search needs
 
 returns : tie.Need-returns
-unfolding blockInRange
-returns c = rw (sym (c .before .is-within .ensures) ∙ not-true _ (c .if1 .taken))
+returns c =
+    let a = c .before .before .args in
+    track-outside (a .size) (a .block)
+    (sym (c .before .is-within .ensures) ∙ not-true _ (c .if1 .taken))
 
 is-within-requires-2 : tie.Need-is-within-requires-2
 is-within-requires-2 c κs = search needs
 
 returns-2 : tie.Need-returns-2
-unfolding blockInRange
 returns-2 c =
-    rw (
-      sym (c .before .before .before .is-within .ensures) ∙ not-false _ (c .before .before .if1 .left),
-      sym (c .before .is-within2 .ensures) ∙ not-true _ (c .if2 .taken),
-    )
+    let a = c .before .before .before .before .args in
+    first-outside (a .size) (a .block)
+    (sym (c .before .before .before .is-within .ensures) ∙ not-false _ (c .before .before .if1 .left))
+    (sym (c .before .is-within2 .ensures) ∙ not-true _ (c .if2 .taken))
 
 is-within-requires-3 : tie.Need-is-within-requires-3
 is-within-requires-3 c κs = search needs
 
 returns-3 : tie.Need-returns-3
-unfolding blockInRange
 returns-3 c =
-    rw (
-      sym (c .before .before .before .before .before .is-within .ensures) ∙ not-false _ (c .before .before .before .before .if1 .left),
-      sym (c .before .before .before .is-within2 .ensures) ∙ not-false _ (c .before .before .if2 .left),
-      sym (c .before .is-within3 .ensures) ∙ not-true _ (c .if3 .taken),
-    )
+    let a = c .before .before .before .before .before .before .args in
+    last-outside (a .size) (a .block)
+    (sym (c .before .before .before .before .before .is-within .ensures) ∙ not-false _ (c .before .before .before .before .if1 .left))
+    (sym (c .before .before .before .is-within2 .ensures) ∙ not-false _ (c .before .before .if2 .left))
+    (sym (c .before .is-within3 .ensures) ∙ not-true _ (c .if3 .taken))
 
 returns-4 : tie.Need-returns-4
-unfolding blockInRange
 returns-4 c =
-    rw (
-      sym (c .before .before .before .before .before .before .is-within .ensures) ∙ not-false _ (c .before .before .before .before .before .if1 .left),
-      sym (c .before .before .before .before .is-within2 .ensures) ∙ not-false _ (c .before .before .before .if2 .left),
-      sym (c .before .before .is-within3 .ensures) ∙ not-false _ (c .before .if3 .left),
-    )
+    let a = c .before .before .before .before .before .before .before .args in
+    order-decides (a .size) (a .block)
+    (sym (c .before .before .before .before .before .before .is-within .ensures) ∙ not-false _ (c .before .before .before .before .before .if1 .left))
+    (sym (c .before .before .before .before .is-within2 .ensures) ∙ not-false _ (c .before .before .before .if2 .left))
+    (sym (c .before .before .is-within3 .ensures) ∙ not-false _ (c .before .if3 .left))
 
 pub is-block-in-range-spec : {M : Type 1} → statement M
 is-block-in-range-spec =

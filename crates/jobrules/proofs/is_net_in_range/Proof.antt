@@ -1,7 +1,7 @@
 -- `jobrules::is_net_in_range` meets its contract: one test after another. Assumes nothing.
 use mathlib.Core.Path.{sym, _∙_}
-use borrow.Author.Tests.{not-true, not-false, le-leb, lt-leb}
-use Rattle.jobfile.specs.Read.{netInRange}
+use borrow.Author.Tests.{not-true, not-false}
+use Rattle.jobrules.proofs.Ranges.{number-outside, left-outside, right-outside, min-outside, max-decides}
 use borrow.Author.Needs.{needs}
 use Rattle.jobrules.proofs.is_net_in_range.Statement.{statement}
 use Rattle.jobrules.proofs.is_net_in_range.Tie as tie
@@ -10,51 +10,49 @@ is-within-requires : tie.Need-is-within-requires
 is-within-requires c κs = search needs
 
 returns : tie.Need-returns
-unfolding netInRange
-returns c = rw (sym (c .before .is-within .ensures) ∙ not-true _ (c .if1 .taken))
+returns c =
+    let a = c .before .before .args in
+    number-outside (a .size) (a .net)
+    (sym (c .before .is-within .ensures) ∙ not-true _ (c .if1 .taken))
 
 is-within-requires-2 : tie.Need-is-within-requires-2
 is-within-requires-2 c κs = search needs
 
 returns-2 : tie.Need-returns-2
-unfolding netInRange
 returns-2 c =
-    rw (
-      sym (c .before .before .before .is-within .ensures) ∙ not-false _ (c .before .before .if1 .left),
-      sym (c .before .is-within2 .ensures) ∙ not-true _ (c .if2 .taken),
-    )
+    let a = c .before .before .before .before .args in
+    left-outside (a .size) (a .net)
+    (sym (c .before .before .before .is-within .ensures) ∙ not-false _ (c .before .before .if1 .left))
+    (sym (c .before .is-within2 .ensures) ∙ not-true _ (c .if2 .taken))
 
 is-within-requires-3 : tie.Need-is-within-requires-3
 is-within-requires-3 c κs = search needs
 
 returns-3 : tie.Need-returns-3
-unfolding netInRange
 returns-3 c =
-    rw (
-      sym (c .before .before .before .before .before .is-within .ensures) ∙ not-false _ (c .before .before .before .before .if1 .left),
-      sym (c .before .before .before .is-within2 .ensures) ∙ not-false _ (c .before .before .if2 .left),
-      sym (c .before .is-within3 .ensures) ∙ not-true _ (c .if3 .taken),
-    )
+    let a = c .before .before .before .before .before .before .args in
+    right-outside (a .size) (a .net)
+    (sym (c .before .before .before .before .before .is-within .ensures) ∙ not-false _ (c .before .before .before .before .if1 .left))
+    (sym (c .before .before .before .is-within2 .ensures) ∙ not-false _ (c .before .before .if2 .left))
+    (sym (c .before .is-within3 .ensures) ∙ not-true _ (c .if3 .taken))
 
 returns-4 : tie.Need-returns-4
-unfolding netInRange
 returns-4 c =
-    rw (
-      sym (c .before .before .before .before .before .before .before .is-within .ensures) ∙ not-false _ (c .before .before .before .before .before .before .if1 .left),
-      sym (c .before .before .before .before .before .is-within2 .ensures) ∙ not-false _ (c .before .before .before .before .if2 .left),
-      sym (c .before .before .before .is-within3 .ensures) ∙ not-false _ (c .before .before .if3 .left),
-      lt-leb _ _ (c .if4 .taken),
-    )
+    let a = c .before .before .before .before .before .before .before .before .args in
+    min-outside (a .size) (a .net)
+    (sym (c .before .before .before .before .before .before .before .is-within .ensures) ∙ not-false _ (c .before .before .before .before .before .before .if1 .left))
+    (sym (c .before .before .before .before .before .is-within2 .ensures) ∙ not-false _ (c .before .before .before .before .if2 .left))
+    (sym (c .before .before .before .is-within3 .ensures) ∙ not-false _ (c .before .before .if3 .left))
+    (c .if4 .taken)
 
 returns-5 : tie.Need-returns-5
-unfolding netInRange
 returns-5 c =
-    rw (
-      sym (c .before .before .before .before .before .before .before .before .is-within .ensures) ∙ not-false _ (c .before .before .before .before .before .before .before .if1 .left),
-      sym (c .before .before .before .before .before .before .is-within2 .ensures) ∙ not-false _ (c .before .before .before .before .before .if2 .left),
-      sym (c .before .before .before .before .is-within3 .ensures) ∙ not-false _ (c .before .before .before .if3 .left),
-      le-leb _ _ (c .before .if4 .left),
-    )
+    let a = c .before .before .before .before .before .before .before .before .before .args in
+    max-decides (a .size) (a .net)
+    (sym (c .before .before .before .before .before .before .before .before .is-within .ensures) ∙ not-false _ (c .before .before .before .before .before .before .before .if1 .left))
+    (sym (c .before .before .before .before .before .before .is-within2 .ensures) ∙ not-false _ (c .before .before .before .before .before .if2 .left))
+    (sym (c .before .before .before .before .is-within3 .ensures) ∙ not-false _ (c .before .before .before .if3 .left))
+    (c .before .if4 .left)
 
 pub is-net-in-range-spec : {M : Type 1} → statement M
 is-net-in-range-spec =

@@ -4,17 +4,16 @@ use mathlib.Core.Bool.{true}
 use native.Mathlib.Omega.{arith}
 use lib.Dec.{ltb}
 use lib.ListN.{length}
-use borrow.Author.Tests.{not-true, not-false, eq-eqb, ne-eqb, lt-ltb, le-ltb}
+use borrow.Author.Tests.{not-true, not-false}
 use Rattle.lists.specs.Lists.{allOf}
 use Rattle.board.specs.Stored.{jobOf}
 use Rattle.board.specs.Length.{extra, lengthOf, shortest, needed}
 use Rattle.board.specs.Accepted.{NetInRange}
 use Rattle.board.proofs.ShortestShape.{stretch-range}
-use Rattle.jobfile.specs.Read.{unless, netInRange, lastNumber, pinsFree, addNet}
-use Rattle.jobfile.proofs.Tests.{net-range-is}
-use Rattle.jobrules.specs.Rules.{outcomeOf}
-use Rattle.jobrules.proofs.Slots.{nets-used}
-use Rattle.jobrules.proofs.Outcomes.{test-yes, test-no, Passes7, fails-8, fails-9, passes-9}
+use Rattle.jobfile.specs.Read.{netInRange, lastNumber, pinsFree}
+use Rattle.jobfile.proofs.Tests.{net-range-is, differ-is}
+use Rattle.jobrules.proofs.Slots.{net-slot-free, net-slots-used}
+use Rattle.jobrules.proofs.Outcomes.{test-yes, test-no, fails-3, fails-4, fails-5, fails-6, fails-7, test-below, test-not-below, Passes7, fails-8, fails-9, passes-9}
 use borrow.Author.Needs.{needs}
 use Rattle.jobrules.proofs.net_outcome.Statement.{statement}
 use Rattle.jobrules.proofs.net_outcome.Tie as tie
@@ -27,10 +26,10 @@ ranged : (c : tie.Else1) → netInRange (c .before .before .before .args .job .b
 ranged c = sym (c .before .is-net-in-range .ensures) ∙ not-false _ (c .if1 .left)
 
 few : (c : tie.Else2) → ltb (length (jobOf (c .before .before .before .before .before .before .args .job) .nets)) 512 ≡ true
-few c = rw (nets-used _ (c .before .before .before .before .before .before .pre)) (lt-ltb _ _ (c .if2 .left))
+few c = net-slot-free _ (c .before .before .before .before .before .before .pre) (c .if2 .left)
 
 above : (c : tie.Else3) → ltb (lastNumber 0 (jobOf (c .before .before .before .before .before .before .before .before .args .job) .nets)) (c .before .before .before .before .before .before .before .before .args .net .number) ≡ true
-above c = rw (← c .before .before .before .before .last-number .ensures) (lt-ltb _ _ (c .if3 .left))
+above c = test-below (c .before .before .before .before .last-number .ensures) (c .if3 .left)
 
 free : (c : tie.Else4) → allOf (pinsFree (c .before .before .before .before .before .before .before .before .before .before .args .net)) (jobOf (c .before .before .before .before .before .before .before .before .before .before .args .job) .nets) ≡ true
 free c = sym (c .before .are-pins-free .ensures) ∙ not-false _ (c .if4 .left)
@@ -45,34 +44,35 @@ passed c =
       few = few (c .before .before .before .before .before .before);
       above = above (c .before .before .before .before);
       free = free (c .before .before);
-      differ = rw (ne-eqb _ _ (c .if5 .left));
+      differ = differ-is _ _ .1 (c .if5 .left);
     }
 
 returns : tie.Need-returns
-unfolding outcomeOf addNet unless
-returns c = rw (sym (c .before .is-net-in-range .ensures) ∙ not-true _ (c .if1 .taken))
+returns c = fails-3 _ _ _ (sym (c .before .is-net-in-range .ensures) ∙ not-true _ (c .if1 .taken))
 
 last-number-requires : tie.Need-last-number-requires
 last-number-requires c κs = search needs
 
 returns-2 : tie.Need-returns-2
-unfolding outcomeOf addNet unless
-returns-2 c = rw (ranged (c .before .before .before), nets-used _ (c .before .before .before .before .before .before .pre), le-ltb _ _ (c .if2 .taken))
+returns-2 c = fails-4 _ _ _ (ranged (c .before .before .before)) (net-slots-used _ (c .before .before .before .before .before .before .pre) (c .if2 .taken))
 
 returns-3 : tie.Need-returns-3
-unfolding outcomeOf addNet unless
-returns-3 c = rw (ranged (c .before .before .before .before .before), few (c .before .before), ← c .before .before .before .before .last-number .ensures, le-ltb _ _ (c .if3 .taken))
+returns-3 c =
+    fails-5 _ _ _ (ranged (c .before .before .before .before .before)) (few (c .before .before))
+    (test-not-below (c .before .before .before .before .last-number .ensures) (c .if3 .taken))
 
 are-pins-free-requires : tie.Need-are-pins-free-requires
 are-pins-free-requires c κs = search needs
 
 returns-4 : tie.Need-returns-4
-unfolding outcomeOf addNet unless
-returns-4 c = rw (ranged (c .before .before .before .before .before .before .before), few (c .before .before .before .before), above (c .before .before), sym (c .before .are-pins-free .ensures) ∙ not-true _ (c .if4 .taken))
+returns-4 c =
+    fails-6 _ _ _ (ranged (c .before .before .before .before .before .before .before)) (few (c .before .before .before .before)) (above (c .before .before))
+    (sym (c .before .are-pins-free .ensures) ∙ not-true _ (c .if4 .taken))
 
 returns-5 : tie.Need-returns-5
-unfolding outcomeOf addNet unless
-returns-5 c = rw (ranged (c .before .before .before .before .before .before .before .before .before), few (c .before .before .before .before .before .before), above (c .before .before .before .before), free (c .before .before), eq-eqb _ _ (c .if5 .taken))
+returns-5 c =
+    fails-7 _ _ _ (ranged (c .before .before .before .before .before .before .before .before .before)) (few (c .before .before .before .before .before .before))
+    (above (c .before .before .before .before)) (free (c .before .before)) (c .if5 .taken)
 
 shortest-requires : tie.Need-shortest-requires
 shortest-requires c κs = (c .before .before .before .before .before .before .before .before .before .before .before .before .pre .board-range, in-range (c .before .before .before .before .before .before .before .before .before))

@@ -1,4 +1,5 @@
 -- `reader::may_stand` meets its contract: one case for each form. Assumes nothing.
+use mathlib.Core.Path.{sym, ap}
 use Rattle.reader.specs.LinesTaken.{mayStand}
 use borrow.Author.Needs.{needs}
 use Rattle.reader.proofs.may_stand.Statement.{statement}
@@ -30,35 +31,35 @@ enum-told-8 c = search needs
 
 returns : tie.Need-returns
 unfolding mayStand
-returns c = rw (c .enum-told .given .1)
+returns c = sym (ap (mayStand _) (c .enum-told .given .1))
 
 returns-2 : tie.Need-returns-2
 unfolding mayStand
-returns-2 c = rw (c .enum-told2 .given .1)
+returns-2 c = sym (ap (mayStand _) (c .enum-told2 .given .1))
 
 returns-3 : tie.Need-returns-3
 unfolding mayStand
-returns-3 c = rw (c .enum-told3 .given .1)
+returns-3 c = sym (ap (mayStand _) (c .enum-told3 .given .1))
 
 returns-4 : tie.Need-returns-4
 unfolding mayStand
-returns-4 c = rw (c .enum-told4 .given .1)
+returns-4 c = sym (ap (mayStand _) (c .enum-told4 .given .1))
 
 returns-5 : tie.Need-returns-5
 unfolding mayStand
-returns-5 c = rw (c .enum-told5 .given .1)
+returns-5 c = sym (ap (mayStand _) (c .enum-told5 .given .1))
 
 returns-6 : tie.Need-returns-6
 unfolding mayStand
-returns-6 c = rw (c .enum-told6 .given .1)
+returns-6 c = sym (ap (mayStand _) (c .enum-told6 .given .1))
 
 returns-7 : tie.Need-returns-7
 unfolding mayStand
-returns-7 c = rw (c .enum-told7 .given .1)
+returns-7 c = sym (ap (mayStand _) (c .enum-told7 .given .1))
 
 returns-8 : tie.Need-returns-8
 unfolding mayStand
-returns-8 c = rw (c .enum-told8 .given .1)
+returns-8 c = sym (ap (mayStand _) (c .enum-told8 .given .1))
 
 pub may-stand-spec : {M : Type 1} → statement M
 may-stand-spec =

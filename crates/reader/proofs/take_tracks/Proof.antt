@@ -1,8 +1,8 @@
 -- `reader::take_tracks` meets its contract. Assumes nothing.
 use mathlib.Core.Path.{sym, _∙_}
 use borrow.Author.Tests.{not-true, not-false}
-use Rattle.jobfile.specs.Read.{unless}
-use Rattle.reader.specs.LinesTaken.{linesTakenOf}
+use Rattle.jobfile.specs.Read.{within}
+use Rattle.reader.proofs.Lines.{fails-test, passes-test, tracks-held}
 use borrow.Author.Needs.{needs}
 use Rattle.reader.proofs.take_tracks.Statement.{statement}
 use Rattle.reader.proofs.take_tracks.Tie as tie
@@ -14,8 +14,9 @@ refused-requires : tie.Need-refused-requires
 refused-requires c κs = search needs
 
 returns : tie.Need-returns
-unfolding unless
-returns c = c .refused .ensures ∙ (rw (sym (c .before .before .is-within .ensures) ∙ not-true _ (c .before .if1 .taken)))
+returns c =
+    c .refused .ensures
+    ∙ fails-test (within 1 128 (c .before .before .before .args .k)) _ _ (sym (c .before .before .is-within .ensures) ∙ not-true _ (c .before .if1 .taken))
 
 empty-job-requires : tie.Need-empty-job-requires
 empty-job-requires c κs = search needs
@@ -24,10 +25,10 @@ accepted-requires : tie.Need-accepted-requires
 accepted-requires c κs = search needs
 
 returns-2 : tie.Need-returns-2
-unfolding unless linesTakenOf
 returns-2 c =
-    c .accepted .ensures
-    ∙ (rw (sym (c .before .before .before .is-within .ensures) ∙ not-false _ (c .before .before .if1 .left), c .before .empty-job .ensures))
+    passes-test (within 1 128 (c .before .before .before .before .args .k)) _ _ _
+    (sym (c .before .before .before .is-within .ensures) ∙ not-false _ (c .before .before .if1 .left))
+    (c .accepted .ensures ∙ tracks-held _ _ (c .before .empty-job .ensures))
 
 pub take-tracks-spec : {M : Type 1} → statement M
 take-tracks-spec =

@@ -1,1 +1,4 @@
--- The verdict is right.
+-- The verdict is right: it says sound exactly of sound layouts, and names the first broken line of any other text.
+pub mod Lines
+pub mod InPlace
+pub mod Drawings

@@ -2,3 +2,6 @@
 pub mod Lines
 pub mod InPlace
 pub mod Drawings
+pub mod Failing
+pub mod SumRule
+pub mod LooseRule

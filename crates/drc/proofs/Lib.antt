@@ -5,3 +5,5 @@ pub mod Drawings
 pub mod Failing
 pub mod SumRule
 pub mod LooseRule
+pub mod WireRule
+pub mod LineRules

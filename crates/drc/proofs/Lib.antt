@@ -7,3 +7,5 @@ pub mod SumRule
 pub mod LooseRule
 pub mod WireRule
 pub mod LineRules
+pub mod First
+pub mod Kept

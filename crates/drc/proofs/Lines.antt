@@ -59,7 +59,11 @@ line-open w h l = rw (not-ended w h l, piece-last isEnd w (unfold plain in h) l)
 
 -- ---- rendered lines
 
-pub lines-of-text : (xs : List Line) → smallLines xs ≡ true → linesRead (linesText xs) ≡ map (λ x. some x) xs
+-- lines that are all of the form
+abbrev pub ofForm : List Line → List (Option Line)
+ofForm xs = map (λ x. some x) xs
+
+pub lines-of-text : (xs : List Line) → smallLines xs ≡ true → linesRead (linesText xs) ≡ ofForm xs
 unfolding linesText smallLines linesRead isEnded readEach pieces
 lines-of-text [] h = refl
 lines-of-text (x ∷ xs) h =
@@ -73,24 +77,21 @@ read-text s x h =
     let t = and-split (same (lineText (roughLine s)) s) (smallLine (roughLine s)) (o .0) in
     sym (same-true (lineText (roughLine s)) s (t .0)) ∙ ap lineText (o .1)
 
-abbrev Somes : List Line → List (Option Line)
-Somes xs = map (λ x. some x) xs
-
-first-rendered : (w rest : List ℕ) (xs : List Line) → _≡_ {A = List (Option Line)} (readLine w ∷ linesRead rest) (Somes xs) →
-    ((ys : List Line) → linesRead rest ≡ Somes ys → rest ≡ linesText ys) → w ++ 10 ∷ rest ≡ linesText xs
+first-rendered : (w rest : List ℕ) (xs : List Line) → _≡_ {A = List (Option Line)} (readLine w ∷ linesRead rest) (ofForm xs) →
+    ((ys : List Line) → linesRead rest ≡ ofForm ys → rest ≡ linesText ys) → w ++ 10 ∷ rest ≡ linesText xs
 unfolding linesText
 first-rendered w rest [] h f = cc
 first-rendered w rest (x ∷ xs) h f =
     let first : readLine w ≡ some x = cc in
-    let others : linesRead rest ≡ Somes xs = cc in
+    let others : linesRead rest ≡ ofForm xs = cc in
     rw (read-text w x first, f xs others)
 
-open-rendered : (xs : List Line) → none ∷ [] ≡ Somes xs → {w : List ℕ} → w ≡ linesText xs
+open-rendered : (xs : List Line) → none ∷ [] ≡ ofForm xs → {w : List ℕ} → w ≡ linesText xs
 open-rendered [] h = cc
 open-rendered (x ∷ xs) h = cc
 
 -- a text of which the bytes w are known to hold no byte 10
-text-of : (w text : List ℕ) (xs : List Line) → allOf plain w ≡ true → linesRead (w ++ text) ≡ Somes xs → w ++ text ≡ linesText xs
+text-of : (w text : List ℕ) (xs : List Line) → allOf plain w ≡ true → linesRead (w ++ text) ≡ ofForm xs → w ++ text ≡ linesText xs
 unfolding linesText linesRead isEnded readEach pieces
 text-of [] [] [] p h = refl
 text-of [] [] (x ∷ xs) p h = cc
@@ -101,12 +102,12 @@ text-of w (b ∷ bs) xs p h =
     by-test (isEnd b)
     (λ e.
     let ten : b ≡ 10 = eqb-true b 10 e in
-    let h′ : linesRead (w ++ 10 ∷ bs) ≡ Somes xs = rw ten at h in
+    let h′ : linesRead (w ++ 10 ∷ bs) ≡ ofForm xs = rw ten at h in
     rw ten (first-rendered w bs xs (sym (line-then w bs p) ∙ h′) (λ ys g. text-of [] bs ys (unfold allOf in refl) g)))
     (λ e.
     let more : allOf plain (w ++ (b ∷ [])) ≡ true = rw (allOf-append, p) (unfold plain allOf in (rw e refl)) in
     rw (append-assoc w (b ∷ []) bs) at (text-of (w ++ (b ∷ [])) bs xs more (rw (append-assoc w (b ∷ []) bs) h)))
 
 -- a text whose lines are all of the form is their rendering
-pub text-of-lines : (text : List ℕ) (xs : List Line) → linesRead text ≡ Somes xs → text ≡ linesText xs
+pub text-of-lines : (text : List ℕ) (xs : List Line) → linesRead text ≡ ofForm xs → text ≡ linesText xs
 text-of-lines text xs h = text-of [] text xs (unfold allOf in refl) h

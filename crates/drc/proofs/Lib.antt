@@ -9,3 +9,4 @@ pub mod WireRule
 pub mod LineRules
 pub mod First
 pub mod Kept
+pub mod KeptTree

@@ -10,3 +10,7 @@ pub mod LineRules
 pub mod First
 pub mod Kept
 pub mod KeptTree
+pub mod NewNumbers
+pub mod KeptSound
+pub mod SoundKept
+pub mod JudgeSound

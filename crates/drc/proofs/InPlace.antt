@@ -9,11 +9,11 @@ use Rattle.lists.proofs.Cases.{by-test, and-split, and-both}
 use Rattle.board.specs.Job.{Job}
 use Rattle.layout.specs.Tree.{Wire, Line, opens, track, wire, loose, closes}
 use Rattle.drc.specs.Standing.{Above, beforeLayout, inLayout, behindLayout, CanStand, opening-first, track-in-turn, wire-under-track, loose-behind-tracks, closing-behind-tracks}
-use Rattle.drc.specs.Judge.{noneLoose, endsTrack, isInPlace}
+use Rattle.drc.specs.Judge.{noneLoose, endsTrack, isInTurn, isOpening, isInPlace}
 
 module _ (job : Job) where
   pub can-stand-of : (a : Above) (x : Line) → isInPlace job a x ≡ true → CanStand job a x
-  unfolding isInPlace endsTrack noneLoose
+  unfolding isInPlace isOpening isInTurn endsTrack noneLoose
   can-stand-of beforeLayout opens h = opening-first
   can-stand-of beforeLayout (track u s) h = absurd (false≢true h)
   can-stand-of beforeLayout (wire w) h = absurd (false≢true h)
@@ -33,7 +33,7 @@ module _ (job : Job) where
   can-stand-of behindLayout x h = absurd (false≢true h)
 
   pub in-place-of : {a : Above} {x : Line} → CanStand job a x → isInPlace job a x ≡ true
-  unfolding isInPlace endsTrack noneLoose
+  unfolding isInPlace isOpening isInTurn endsTrack noneLoose
   in-place-of opening-first = refl
   in-place-of (track-in-turn {t = t} {u = u} e l) =
       and-both (eqb u (suc t)) (leb u (job .board .tracks)) (eq-eqb u (suc t) e) (le-leb u (job .board .tracks) l)
@@ -59,7 +59,7 @@ module _ (job : Job) where
     pub none-loose : ns ≡ []
 
   pub under-track : (t : ℕ) (earlier : List ℕ) (ws : List Wire) (ns : List ℕ) (w : Wire) → isInPlace job (inLayout t earlier ws ns) (wire w) ≡ true → UnderTrack t ns
-  unfolding isInPlace
+  unfolding isInPlace isInTurn
   under-track t earlier ws ns w h =
       let a = and-split (noneLoose ns && leb 1 t) (leb t (job .board .tracks)) h in
       let b = and-split (noneLoose ns) (leb 1 t) (a .0) in
@@ -72,7 +72,7 @@ module _ (job : Job) where
     pub none-loose : ns ≡ []
 
   pub next-in-turn : (t : ℕ) (earlier : List ℕ) (ws : List Wire) (ns : List ℕ) (u s : ℕ) → isInPlace job (inLayout t earlier ws ns) (track u s) ≡ true → NextTrack t u ns
-  unfolding isInPlace endsTrack
+  unfolding isInPlace isInTurn endsTrack
   next-in-turn t earlier ws ns u s h =
       let a = and-split (noneLoose ns) (eqb u (suc t) && leb u (job .board .tracks)) h in
       let b = and-split (eqb u (suc t)) (leb u (job .board .tracks)) (a .1) in

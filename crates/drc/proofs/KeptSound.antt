@@ -1,9 +1,8 @@
 -- A text whose tree keeps the rules line by line is a sound layout. Assumes nothing.
 use Prim.Native.Nat.{ℕ, suc, _≤_, _<_}
 use mathlib.Core.Path.{_≡_, refl, sym, ap₂}
-use mathlib.Core.Logic.{⊎-elim}
 use mathlib.Core.Option.{some}
-use mathlib.Core.List.{List, [], _∷_, _++_, map, map-append, append-assoc, append-nil, List·Memᴰ, List·Memᴰ·head, List·Memᴰ·append-cases, Memᴰ·append-left, Memᴰ·append-right, Memᴰ·cast, Memᴰ·map}
+use mathlib.Core.List.{List, [], _∷_, _++_, map, map-append, append-assoc, append-nil, List·Memᴰ, List·Memᴰ·head, Memᴰ·append-left, Memᴰ·append-right, Memᴰ·cast, Memᴰ·map}
 use native.Mathlib.Omega.{arith}
 use Rattle.lists.specs.Lists.{Each, EachPair}
 use Rattle.lists.proofs.Laws.{Each-map, Each-at}
@@ -120,7 +119,7 @@ module _ (job : Job) (rise : EachPair (λ a b. a .number < b .number) (job .nets
   new-loose : (wired ns ks : List ℕ) → KeptLoose job wired ns ks → NewEach (wired ++ ns) ks
   new-loose wired ns [] k = tt
   new-loose wired ns (j ∷ ks) k = (
-    λ i. ⊎-elim (k .0 .new) (λ x. let z = k .0 .above j x in omega arith) (List·Memᴰ·append-cases wired i),
+    k .0 .new,
     rw (append-assoc wired ns (j ∷ [])) (new-loose wired (ns ++ (j ∷ [])) ks (k .1)),
   )
 

@@ -17,7 +17,7 @@ use Rattle.layout.specs.Tree.{Wire, DrawnTrack, Line, opens, track, wire, loose
 use Rattle.layout.specs.LayoutText.{wiresThen, tracksThen, looseThen}
 use Rattle.sound.specs.Wires.{worthOf, sumOver, wireNumbers, trackNumbers, wiresSum}
 use Rattle.drc.specs.Standing.{Above, beforeLayout, inLayout, behindLayout, withLine, numbersAbove}
-use Rattle.drc.specs.Judge.{noneLoose, endsTrack, isInPlace, isTrueSum, keepsRules, sound-text, atTextEnd, judgeFrom}
+use Rattle.drc.specs.Judge.{noneLoose, endsTrack, isInTurn, isOpening, isInPlace, isTrueSum, keepsRules, sound-text, atTextEnd, judgeFrom}
 use Rattle.drc.proofs.Lines.{ofForm}
 use Rattle.drc.proofs.InPlace.{UnderTrack, under-track, NextTrack, next-in-turn}
 use Rattle.drc.proofs.WireRule.{WireKept, kept-of}
@@ -189,13 +189,13 @@ module _ (job : Job) where
   behind-end n (some x ∷ ls) h = absurd (not-sound n h)
 
   closes-case : (n t : ℕ) (earlier : List ℕ) (ws : List Wire) (ns : List ℕ) (ls : List (Option Line)) → Sound-from n t earlier ws ns (some closes ∷ ls) → Remaining t earlier ws ns (some closes ∷ ls)
-  unfolding isInPlace endsTrack keepsRules withLine
+  unfolding isInPlace isInTurn endsTrack keepsRules withLine
   closes-case n t earlier ws ns ls h =
       let x = passed n (inLayout t earlier ws ns) closes ls h in
       closes-last t earlier ws ns ls (behind-end (suc n) ls (x .rest)) (eqb-true t (job .board .tracks) (x .in-place)) (x .kept)
 
   opens-case : (n t : ℕ) (earlier : List ℕ) (ws : List Wire) (ns : List ℕ) (ls : List (Option Line)) → Sound-from n t earlier ws ns (some opens ∷ ls) → ⊥
-  unfolding isInPlace
+  unfolding isInPlace isInTurn
   opens-case n t earlier ws ns ls h = false≢true (passed n (inLayout t earlier ws ns) opens ls h .in-place)
 
   remaining : (n t : ℕ) (earlier : List ℕ) (ws : List Wire) (ns : List ℕ) (ls : List (Option Line)) → Sound-from n t earlier ws ns ls → Remaining t earlier ws ns ls
@@ -233,7 +233,7 @@ module _ (job : Job) where
       }
 
   pub sound-tree : (ls : List (Option Line)) → judgeFrom job 1 beforeLayout ls ≡ sound-text → KeptTree ls
-  unfolding judgeFrom atTextEnd isInPlace keepsRules withLine
+  unfolding judgeFrom atTextEnd isInPlace isOpening keepsRules withLine
   sound-tree [] h = absurd (not-sound 1 h)
   sound-tree (none ∷ ls) h = absurd (not-sound 1 h)
   sound-tree (some (track u s) ∷ ls) h = absurd (not-sound 1 h)

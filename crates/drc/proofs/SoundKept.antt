@@ -131,11 +131,14 @@ module _ (job : Job) (rise : EachPair (λ a b. a .number < b .number) (job .nets
   looses-kept wired all known d r ns [] e = tt
   looses-kept wired all known d r ns (k ∷ ks) e =
       let ik : List·Memᴰ k all = rw (← e) (Memᴰ·append-right ns (List·Memᴰ·head refl)) in
-      let r′ : EachPair (λ i j. i < j) (ns ++ (k ∷ ks)) = rw e r in (
+      let r′ : EachPair (λ i j. i < j) (ns ++ (k ∷ ks)) = rw e r in
+      let above : (j : ℕ) → List·Memᴰ j ns → j < k = λ j i. Each-at (λ x. Each (λ y. x < y) (k ∷ ks)) ns j (EachPair-across (λ x y. x < y) ns (k ∷ ks) r′) i .0 in
+      let unwired : List·Memᴰ k wired → ⊥ =
+      λ m. Each-at (λ y. k ≡ y → ⊥) all k (Each-at (λ x. Each (λ y. x ≡ y → ⊥) all) wired k (EachPair-across (λ x y. x ≡ y → ⊥) wired all d) m) ik refl in (
         record {
           known = Each-at (λ j. List·Memᴰ j (netNumbersOf job)) all k known ik;
-          new = λ m. Each-at (λ y. k ≡ y → ⊥) all k (Each-at (λ x. Each (λ y. x ≡ y → ⊥) all) wired k (EachPair-across (λ x y. x ≡ y → ⊥) wired all d) m) ik refl;
-          above = λ j i. Each-at (λ x. Each (λ y. x < y) (k ∷ ks)) ns j (EachPair-across (λ x y. x < y) ns (k ∷ ks) r′) i .0;
+          new = λ m. ⊎-elim unwired (λ i. let z = above k i in omega arith) (List·Memᴰ·append-cases wired m);
+          above = above;
         },
         looses-kept wired all known d r (ns ++ (k ∷ [])) ks (append-assoc ns (k ∷ []) ks ∙ e),
       )

@@ -12,14 +12,14 @@ use Rattle.layout.specs.Tree.{Wire, Line, opens, track, wire, loose, closes}
 use Rattle.sound.specs.Wires.{worthOf, sumOver, wireNumbers, wiresSum}
 use Rattle.drc.specs.Standing.{inLayout, CanStand}
 use Rattle.drc.specs.Breach.{NoWire, next-track, first-loose, closing, FalseSum}
-use Rattle.drc.specs.Judge.{noneLoose, endsTrack, isInPlace, isTrueSum}
+use Rattle.drc.specs.Judge.{noneLoose, endsTrack, isInTurn, isInPlace, isTrueSum}
 use Rattle.drc.proofs.Failing.{or-fails}
 use Rattle.drc.proofs.InPlace.{can-stand-of, in-place-of}
 
 module _ (job : Job) (u s : ℕ) where
   -- a line that is no wire can stand behind the wires of track u exactly if it ends them
   ends-of : (x : Line) → NoWire x → (earlier : List ℕ) (ws : List Wire) → endsTrack job u x ≡ isInPlace job (inLayout u earlier ws []) x
-  unfolding isInPlace noneLoose
+  unfolding isInPlace isInTurn noneLoose
   ends-of (track t v) next-track earlier ws = refl
   ends-of (loose k) first-loose earlier ws = refl
   ends-of closes closing earlier ws = refl

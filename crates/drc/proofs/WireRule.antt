@@ -25,7 +25,7 @@ use Rattle.layout.specs.Drawing.{wireOf}
 use Rattle.sound.specs.Wires.{wireNumbers}
 use Rattle.drc.specs.Breach.{Draws, WireBreach, not-placed, shared-row, wrong-order, repeated-net, preceding-net}
 use Rattle.drc.specs.Covers.{drawnBy, coversOf}
-use Rattle.drc.specs.Judge.{isBelow, isSoundWire}
+use Rattle.drc.specs.Judge.{isBelow, isSoundPlace, isSoundWire}
 use Rattle.drc.proofs.Failing.{and-fails, or-fails, both-ways}
 use Rattle.drc.proofs.Drawings.{drawn-some, drawn-of, same-track, covers-some, covers-of}
 
@@ -62,7 +62,7 @@ module _ (job : Job) (t : ℕ) (earlier : List ℕ) (ws : List Wire) where
   Below p = allOf (λ v. isBelow p (coversOf job v)) ws
 
   pub kept-of : (w : Wire) → isSoundWire job t earlier ws (drawnBy job t w) ≡ true → WireKept w
-  unfolding isSoundWire isBelow
+  unfolding isSoundWire isSoundPlace isBelow
   kept-of w h =
       by-option (drawnBy job t w)
       (λ e. absurd (false≢true (rw e at h)))
@@ -84,7 +84,7 @@ module _ (job : Job) (t : ℕ) (earlier : List ℕ) (ws : List Wire) where
       })
 
   pub of-kept : (w : Wire) → WireKept w → isSoundWire job t earlier ws (drawnBy job t w) ≡ true
-  unfolding isSoundWire isBelow
+  unfolding isSoundWire isSoundPlace isBelow
   of-kept w k =
       let p = k .place in
       rw (k .found)
@@ -146,7 +146,7 @@ module _ (job : Job) (t : ℕ) (earlier : List ℕ) (ws : List Wire) where
         (λ x. let y : q .top < p .top = leb-false (p .top) (q .top) x in shared-row (p .top) d i g (omega arith) (omega arith) (omega arith) l))
 
     fails-drawn : (p : Placement) → drawnBy job t w ≡ some p → isSoundWire job t earlier ws (some p) ≡ false → Broken
-    unfolding isSoundWire
+    unfolding isSoundWire isSoundPlace
     fails-drawn p e f =
         let d = drawn-some job t on-track on-board w p e in
         ⊎-elim

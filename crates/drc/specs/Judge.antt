@@ -28,18 +28,26 @@ endsTrack job t (wire w) = false
 endsTrack job t (loose k) = eqb t (job .board .tracks)
 endsTrack job t closes = eqb t (job .board .tracks)
 
+-- the line can stand behind track line t (0 before the first), where `wiresGoOn` tells whether no loose line stands above
+unfoldable pub isInTurn : Job → ℕ → Bool → Line → Bool
+isInTurn job t wiresGoOn opens = false
+isInTurn job t wiresGoOn (track u s) = wiresGoOn && endsTrack job t (track u s)
+isInTurn job t wiresGoOn (wire w) = wiresGoOn && leb 1 t && leb t (job .board .tracks)
+isInTurn job t wiresGoOn (loose k) = endsTrack job t (loose k)
+isInTurn job t wiresGoOn closes = endsTrack job t closes
+
+-- the first line of a layout
+unfoldable pub isOpening : Line → Bool
+isOpening opens = true
+isOpening (track u s) = false
+isOpening (wire w) = false
+isOpening (loose k) = false
+isOpening closes = false
+
 -- the line can stand there
 unfoldable pub isInPlace : Job → Above → Line → Bool
-isInPlace job beforeLayout opens = true
-isInPlace job beforeLayout (track u s) = false
-isInPlace job beforeLayout (wire w) = false
-isInPlace job beforeLayout (loose k) = false
-isInPlace job beforeLayout closes = false
-isInPlace job (inLayout t earlier ws ns) opens = false
-isInPlace job (inLayout t earlier ws ns) (track u s) = noneLoose ns && endsTrack job t (track u s)
-isInPlace job (inLayout t earlier ws ns) (wire w) = noneLoose ns && leb 1 t && leb t (job .board .tracks)
-isInPlace job (inLayout t earlier ws ns) (loose k) = endsTrack job t (loose k)
-isInPlace job (inLayout t earlier ws ns) closes = endsTrack job t closes
+isInPlace job beforeLayout x = isOpening x
+isInPlace job (inLayout t earlier ws ns) x = isInTurn job t (noneLoose ns) x
 isInPlace job behindLayout x = false
 
 -- ---- the rules
@@ -60,18 +68,25 @@ unfoldable pub isBelow : Placement → Option Placement → Bool
 isBelow p none = true
 isBelow p (some q) = ltb (bottom q) (p .top)
 
--- a wire that draws p may stand below the wires ws of track t: its length is allowed, it is clear of blocks, its net has no line above,
--- every net that precedes its net stands on an earlier track, and it lies below the wires ws
+-- p may stand on track t: its length is allowed, it is clear of blocks, its net has no line above, and every net that precedes its net
+-- stands on an earlier track; `lined` has the numbers of all lines above
+unfoldable pub isSoundPlace : Job → ℕ → List ℕ → List ℕ → Placement → Bool
+isSoundPlace job t earlier lined p =
+    isLong (job .board) p && isShort (job .board) p && isClear job t p && not (isOn lined (p .net)) && isReady job earlier (p .net)
+
+-- a wire that draws p may stand below the wires ws of track t
 unfoldable pub isSoundWire : Job → ℕ → List ℕ → List Wire → Option Placement → Bool
 isSoundWire job t earlier ws none = false
 isSoundWire job t earlier ws (some p) =
-    isLong (job .board) p && isShort (job .board) p && isClear job t p && not (isOn (earlier ++ wireNumbers ws) (p .net)) &&
-    isReady job earlier (p .net) && allOf (λ v. isBelow p (coversOf job v)) ws
+    isSoundPlace job t earlier (earlier ++ wireNumbers ws) p && allOf (λ v. isBelow p (coversOf job v)) ws
 
--- a loose line of number k may stand below wires with the numbers `wired` and loose lines with the numbers ns
+-- k is the number of a net that has no line above
+unfoldable pub isUnlined : Job → List ℕ → ℕ → Bool
+isUnlined job lined k = anyOf (eqb k) (map (λ n. n .number) (job .nets)) && not (anyOf (eqb k) lined)
+
+-- a loose line of number k may stand below loose lines with the numbers ns
 unfoldable pub isSoundLoose : Job → List ℕ → List ℕ → ℕ → Bool
-isSoundLoose job wired ns k =
-    anyOf (eqb k) (map (λ n. n .number) (job .nets)) && not (anyOf (eqb k) wired) && allOf (λ j. ltb j k) ns
+isSoundLoose job lined ns k = isUnlined job lined k && allOf (λ j. ltb j k) ns
 
 -- line x, which can stand below a and has the lines ls below it, keeps the rules
 unfoldable pub keepsRules : Job → Above → Line → List (Option Line) → Bool
@@ -80,7 +95,7 @@ keepsRules job behindLayout x ls = true
 keepsRules job (inLayout t earlier ws ns) opens ls = true
 keepsRules job (inLayout t earlier ws ns) (track u s) ls = isTrueSum job u s 0 ls
 keepsRules job (inLayout t earlier ws ns) (wire w) ls = isSoundWire job t earlier ws (drawnBy job t w)
-keepsRules job (inLayout t earlier ws ns) (loose k) ls = isSoundLoose job (earlier ++ wireNumbers ws) ns k
+keepsRules job (inLayout t earlier ws ns) (loose k) ls = isSoundLoose job (numbersAbove earlier ws ns) ns k
 keepsRules job (inLayout t earlier ws ns) closes ls = allOf (isOn (numbersAbove earlier ws ns)) (job .nets)
 
 -- ---- the verdict

@@ -14,3 +14,4 @@ pub mod NewNumbers
 pub mod KeptSound
 pub mod SoundKept
 pub mod JudgeSound
+pub mod WorkedVerdicts

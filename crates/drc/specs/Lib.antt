@@ -3,3 +3,4 @@ pub mod Standing
 pub mod Breach
 pub mod Covers
 pub mod Judge
+pub mod Pass

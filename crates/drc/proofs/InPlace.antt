@@ -11,6 +11,11 @@ use Rattle.layout.specs.Tree.{Wire, Line, opens, track, wire, loose, closes}
 use Rattle.drc.specs.Standing.{Above, beforeLayout, inLayout, behindLayout, CanStand, opening-first, track-in-turn, wire-under-track, loose-behind-tracks, closing-behind-tracks}
 use Rattle.drc.specs.Judge.{noneLoose, endsTrack, isInTurn, isOpening, isInPlace}
 
+pub nil-of : (ns : List ℕ) → noneLoose ns ≡ true → ns ≡ []
+unfolding noneLoose
+nil-of [] h = refl
+nil-of (k ∷ ns) h = absurd (false≢true h)
+
 module _ (job : Job) where
   pub can-stand-of : (a : Above) (x : Line) → isInPlace job a x ≡ true → CanStand job a x
   unfolding isInPlace isOpening isInTurn endsTrack noneLoose
@@ -46,11 +51,6 @@ module _ (job : Job) where
   not-in-place a x h c = true≢false (sym (in-place-of c) ∙ h)
 
   -- ---- what a line in its place tells of the lines above
-
-  nil-of : (ns : List ℕ) → noneLoose ns ≡ true → ns ≡ []
-  unfolding noneLoose
-  nil-of [] h = refl
-  nil-of (k ∷ ns) h = absurd (false≢true h)
 
   -- a wire stands under a track line of the board, with no loose line above it
   pub record UnderTrack (t : ℕ) (ns : List ℕ) : Type 0 where

@@ -25,6 +25,11 @@ use Rattle.drc.proofs.LooseRule.{LooseKept, loose-kept}
 use Rattle.drc.proofs.First.{not-sound}
 use Rattle.drc.proofs.Kept.{endLines, KeptWires, KeptTracks, KeptLoose, NoneMissing, tracks-count}
 
+pub some-loose : (ns : List ℕ) (j : ℕ) → noneLoose (ns ++ (j ∷ [])) ≡ false
+unfolding noneLoose
+some-loose [] j = refl
+some-loose (n ∷ ns) j = refl
+
 module _ (job : Job) where
   -- ---- a line that the verdict goes past
 
@@ -88,11 +93,6 @@ module _ (job : Job) where
         behind-loose = λ _. (refl, refl);
         before-tracks = λ _. refl;
       }
-
-  some-loose : (ns : List ℕ) (j : ℕ) → noneLoose (ns ++ (j ∷ [])) ≡ false
-  unfolding noneLoose
-  some-loose [] j = refl
-  some-loose (n ∷ ns) j = refl
 
   loose-above : (t : ℕ) (earlier : List ℕ) (ws : List Wire) (ns : List ℕ) (j : ℕ) (ls : List (Option Line)) →
       LooseKept job (earlier ++ wireNumbers ws) ns j → Remaining t earlier ws (ns ++ (j ∷ [])) ls → Remaining t earlier ws ns (some (loose j) ∷ ls)

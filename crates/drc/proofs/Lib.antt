@@ -15,3 +15,4 @@ pub mod KeptSound
 pub mod SoundKept
 pub mod JudgeSound
 pub mod WorkedVerdicts
+pub mod Summaries

@@ -16,3 +16,4 @@ pub mod SoundKept
 pub mod JudgeSound
 pub mod WorkedVerdicts
 pub mod Summaries
+pub mod OnePass

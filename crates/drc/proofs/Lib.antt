@@ -17,3 +17,4 @@ pub mod JudgeSound
 pub mod WorkedVerdicts
 pub mod Summaries
 pub mod OnePass
+pub mod SoundRival

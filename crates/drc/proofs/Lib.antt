@@ -1,4 +1,5 @@
 -- The verdict is right: it says sound exactly of sound layouts, and names the first broken line of any other text.
+pub mod WorkedVerdicts
 pub mod Lines
 pub mod InPlace
 pub mod Drawings
@@ -14,7 +15,6 @@ pub mod NewNumbers
 pub mod KeptSound
 pub mod SoundKept
 pub mod JudgeSound
-pub mod WorkedVerdicts
 pub mod Summaries
 pub mod OnePass
 pub mod SoundRival

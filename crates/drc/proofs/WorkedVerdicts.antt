@@ -19,11 +19,17 @@ use Rattle.sound.specs.Wires.{worthBy, worthOf}
 use Rattle.drc.specs.Standing.{isEnded, readEach, linesRead, withLine}
 use Rattle.drc.specs.Covers.{samePoints, isOnBoard, drawnOf, drawnFrom, drawnBy, trackDrawn, coversOf}
 use Rattle.drc.specs.Judge.{noneLoose, endsTrack, isInTurn, isOpening, isInPlace, isTrueSum, isBelow, isSoundPlace, isSoundWire, isUnlined, isSoundLoose, keepsRules, Verdict, sound-text, broken-at, atTextEnd, judgeFrom, judge}
+use Rattle.drc.specs.Pass.{isNextWire, lowestOf, faultAfter, closedAt, unlessFault, judgedTrack, orBroken, passInTurn, passLine, passIllFormed, passStep, passEnd, afterStep, passFrom, passOver}
 
 -- the verdict on a text. To unfold this is to unfold all that it computes with
 unfoldable computed : Job → List ℕ → Verdict
 unfolding judge judgeFrom atTextEnd keepsRules isSoundLoose isUnlined isSoundWire isSoundPlace isBelow isTrueSum isInPlace isOpening isInTurn endsTrack noneLoose coversOf trackDrawn drawnBy drawnFrom drawnOf isOnBoard samePoints withLine linesRead readEach isEnded worthOf worthBy netNumbered placementOf placementFrom lastIn firstIn pointsOn corners farRow nearRow distinctFrom samePoint wireColumn viaColumn readLine smallLine smallPoints roughLine lineFrom pointsOf wordsIn lineText pointsThen valueFrom digits digitsIn nonEmpty pieces joined same isReady isBefore isOn isClear clearRows isToLast isUnderLower isOverUpper isFromOne isShort isLong blocked closes worth needed shortest plainLength span upper lower width firstOf allOf anyOf
 computed job text = judge job text
+
+-- the same of the pass
+unfoldable passed : Job → List ℕ → Verdict
+unfolding computed passOver passFrom afterStep passEnd passStep passIllFormed passLine passInTurn orBroken judgedTrack unlessFault closedAt faultAfter lowestOf isNextWire
+passed job text = passOver job text
 
 -- rows 10, tracks 1, (net 1 4 6 5 20): n = 3 at its shortest, and lengths to 19 are allowed
 abbrev longNet : Net
@@ -186,3 +192,29 @@ needed-rows-summed = refl
 pub drawn-rows-summed : judge longJob (bytes "(layout\n (track 1 5)\n (wire 1 (0 4) (1 4) (1 3) (2 3) (2 7) (1 7) (1 6) (3 6))\n)\n") ≡ broken-at 2
 unfolding computed
 drawn-rows-summed = refl
+
+-- ---- the pass on some of them
+
+pub worked-passed : passOver workedJob (bytes "(layout\n (track 1 9)\n (wire 1 (0 2) (1 2) (1 4) (5 4))\n (wire 2 (0 6) (1 6) (1 5) (2 5) (2 8) (1 8) (5 8))\n (wire 3 (0 9) (1 9) (1 10) (5 10))\n (track 2 2)\n (wire 4 (0 3) (3 3) (3 2) (5 2))\n (loose 5)\n)\n") ≡ sound-text
+unfolding passed
+worked-passed = refl
+
+pub end-row-found : passOver workedJob (bytes "(layout\n (track 1 9)\n (wire 1 (0 2) (1 2) (1 4) (5 4))\n (wire 2 (0 6) (1 6) (2 6) (2 9) (1 9) (1 8) (5 8))\n (wire 3 (0 9) (1 9) (1 10) (5 10))\n (track 2 2)\n (wire 4 (0 3) (3 3) (3 2) (5 2))\n (loose 5)\n)\n") ≡ broken-at 5
+unfolding passed
+end-row-found = refl
+
+pub untrue-sum-found : passOver workedJob (bytes "(layout\n (track 1 8)\n (wire 1 (0 2) (1 2) (1 4) (5 4))\n (wire 2 (0 6) (1 6) (1 5) (2 5) (2 8) (1 8) (5 8))\n (wire 3 (0 9) (1 9) (1 10) (5 10))\n (track 2 2)\n (wire 4 (0 3) (3 3) (3 2) (5 2))\n (loose 5)\n)\n") ≡ broken-at 2
+unfolding passed
+untrue-sum-found = refl
+
+pub sum-found-behind-broken-wire : passOver workedJob (bytes "(layout\n (track 1 8)\n (wire 1)\n (wire 2 (0 6) (1 6) (1 5) (2 5) (2 8) (1 8) (5 8))\n (wire 3 (0 9) (1 9) (1 10) (5 10))\n (track 2 2)\n (wire 4 (0 3) (3 3) (3 2) (5 2))\n (loose 5)\n)\n") ≡ broken-at 2
+unfolding passed
+sum-found-behind-broken-wire = refl
+
+pub unjudged-sum-passed-over : passOver workedJob (bytes "(layout\n (track 1 9)\n (wire 1 (0 2) (1 2) (1 4) (5 4))\n (wire 2 (0 6) (1 6) (1 5) (2 5) (2 8) (1 8) (5 8))\n (wire 3 (0 9) (1 9) (1 10) (5 10))\n (track 2 3)\n (wire 4 (0 3) (3 3) (3 2) (5 2))\n)") ≡ broken-at 8
+unfolding passed
+unjudged-sum-passed-over = refl
+
+pub falling-loose-found : passOver workedJob (bytes "(layout\n (track 1 6)\n (wire 2 (0 6) (1 6) (1 5) (2 5) (2 8) (1 8) (5 8))\n (wire 3 (0 9) (1 9) (1 10) (5 10))\n (track 2 0)\n (loose 5)\n (loose 4)\n (loose 1)\n)\n") ≡ broken-at 7
+unfolding passed
+falling-loose-found = refl

@@ -33,10 +33,10 @@ not-sound n e = let z : _≡_ {A = ℕ} 0 1 = cc in omega arith
 not-broken : (l : ℕ) → sound-text ≡ broken-at l → ⊥
 not-broken l e = let z : _≡_ {A = ℕ} 0 1 = cc in omega arith
 
-before-not-behind : beforeLayout ≡ behindLayout → ⊥
+pub before-not-behind : beforeLayout ≡ behindLayout → ⊥
 before-not-behind e = let z : _≡_ {A = ℕ} 0 1 = cc in omega arith
 
-in-not-behind : (t : ℕ) (earlier : List ℕ) (ws : List Wire) (ns : List ℕ) → inLayout t earlier ws ns ≡ behindLayout → ⊥
+pub in-not-behind : (t : ℕ) (earlier : List ℕ) (ws : List Wire) (ns : List ℕ) → inLayout t earlier ws ns ≡ behindLayout → ⊥
 in-not-behind t earlier ws ns e = let z : _≡_ {A = ℕ} 0 1 = cc in omega arith
 
 -- ---- at the end of the text

@@ -1,5 +1,5 @@
 -- The verdict is right: it says sound exactly of sound layouts, and names the first broken line of any other text.
-pub mod WorkedVerdicts
+pub mod ComputedVerdicts
 pub mod Lines
 pub mod InPlace
 pub mod Drawings
@@ -18,3 +18,4 @@ pub mod JudgeSound
 pub mod Summaries
 pub mod OnePass
 pub mod SoundRival
+pub mod EveryBroken

@@ -4,3 +4,4 @@ pub mod Breach
 pub mod Covers
 pub mod Judge
 pub mod Pass
+pub mod BrokenLines

@@ -22,7 +22,7 @@ use Rattle.drc.specs.Judge.{noneLoose, endsTrack, isInTurn, isOpening, i
 use Rattle.drc.specs.Pass.{isNextWire, lowestOf, faultAfter, closedAt, unlessFault, judgedTrack, orBroken, passInTurn, passLine, passIllFormed, passStep, passEnd, afterStep, passFrom, passOver}
 
 -- the verdict on a text. To unfold this is to unfold all that it computes with
-unfoldable computed : Job → List ℕ → Verdict
+unfoldable pub computed : Job → List ℕ → Verdict
 unfolding judge judgeFrom atTextEnd keepsRules isSoundLoose isUnlined isSoundWire isSoundPlace isBelow isTrueSum isInPlace isOpening isInTurn endsTrack noneLoose coversOf trackDrawn drawnBy drawnFrom drawnOf isOnBoard samePoints withLine linesRead readEach isEnded worthOf worthBy netNumbered placementOf placementFrom lastIn firstIn pointsOn corners farRow nearRow distinctFrom samePoint wireColumn viaColumn readLine smallLine smallPoints roughLine lineFrom pointsOf wordsIn lineText pointsThen valueFrom digits digitsIn nonEmpty pieces joined same isReady isBefore isOn isClear clearRows isToLast isUnderLower isOverUpper isFromOne isShort isLong blocked closes worth needed shortest plainLength span upper lower width firstOf allOf anyOf
 computed job text = judge job text
 

@@ -1,5 +1,6 @@
 -- The verdict is right: it says sound exactly of sound layouts, and names the first broken line of any other text.
 pub mod ComputedVerdicts
+pub mod ComputedLines
 pub mod Lines
 pub mod InPlace
 pub mod Drawings

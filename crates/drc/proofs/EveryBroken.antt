@@ -11,7 +11,7 @@ use Rattle.board.specs.Job.{Job}
 use Rattle.board.specs.Accepted.{AcceptedJob}
 use Rattle.layout.specs.Tree.{Wire, Line}
 use Rattle.drc.specs.Standing.{linesRead, Above, beforeLayout, inLayout, behindLayout, withLine}
-use Rattle.drc.specs.Breach.{BreachFrom, at-line, further-down, out-of-place, ill-formed, ends-early, Breach}
+use Rattle.drc.specs.Breach.{BreachFrom, at-line, further-down, out-of-place, ill-formed, stops-early, Breach}
 use Rattle.drc.specs.Judge.{isInPlace, keepsRules}
 use Rattle.drc.specs.BrokenLines.{brokenEnd, brokenFrom, brokenLines}
 use Rattle.drc.proofs.InPlace.{can-stand-of, in-place-of, not-in-place}
@@ -31,8 +31,8 @@ end-listed n behindLayout f = absurd (f refl)
 
 listed-end : (job : Job) (n l : ℕ) (a : Above) → List·Memᴰ l (brokenEnd n a) → BreachFrom job n a [] l
 unfolding brokenEnd
-listed-end job n l beforeLayout m = rw (one-line m) (ends-early before-not-behind)
-listed-end job n l (inLayout t earlier ws ns) m = rw (one-line m) (ends-early (in-not-behind t earlier ws ns))
+listed-end job n l beforeLayout m = rw (one-line m) (stops-early before-not-behind)
+listed-end job n l (inLayout t earlier ws ns) m = rw (one-line m) (stops-early (in-not-behind t earlier ws ns))
 listed-end job n l behindLayout m = absurd (List·Memᴰ·not-nil m)
 
 -- ---- at a line
@@ -50,7 +50,7 @@ module _ (job : Job) (rise : EachPair (λ a b. a .number < b .number) (job .nets
   from-listed (out-of-place {a = a} {x = x} f) =
       by-test (isInPlace job a x) (λ s. absurd (f (can-stand-of job a x s))) (λ s. rw s (List·Memᴰ·head refl))
   from-listed ill-formed = List·Memᴰ·head refl
-  from-listed (ends-early {n = n} {a = a} f) = end-listed n a f
+  from-listed (stops-early {n = n} {a = a} f) = end-listed n a f
 
   listed-from : (n l : ℕ) (a : Above) (ls : List (Option Line)) → List·Memᴰ l (brokenFrom job n a ls) → BreachFrom job n a ls l
   unfolding brokenFrom

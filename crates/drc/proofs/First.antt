@@ -11,7 +11,7 @@ use Rattle.board.specs.Job.{Job}
 use Rattle.board.specs.Accepted.{AcceptedJob}
 use Rattle.layout.specs.Tree.{Wire, Line}
 use Rattle.drc.specs.Standing.{linesRead, Above, beforeLayout, inLayout, behindLayout, withLine}
-use Rattle.drc.specs.Breach.{BreachFrom, at-line, further-down, out-of-place, ill-formed, ends-early, Breach}
+use Rattle.drc.specs.Breach.{BreachFrom, at-line, further-down, out-of-place, ill-formed, stops-early, Breach}
 use Rattle.drc.specs.Judge.{isInPlace, keepsRules, sound-text, broken-at, atTextEnd, judgeFrom, judge}
 use Rattle.drc.proofs.InPlace.{can-stand-of, in-place-of, not-in-place}
 use Rattle.drc.proofs.LineRules.{fails-line, passes-line}
@@ -22,7 +22,7 @@ breach-from (at-line b) = omega arith
 breach-from (further-down {l = l} s b) = omega (arith, breach-from b)
 breach-from (out-of-place f) = omega arith
 breach-from ill-formed = omega arith
-breach-from (ends-early f) = omega arith
+breach-from (stops-early f) = omega arith
 
 same-line : (n l : ℕ) → broken-at n ≡ broken-at l → n ≡ l
 same-line n l e = cc
@@ -43,8 +43,8 @@ in-not-behind t earlier ws ns e = let z : _≡_ {A = ℕ} 0 1 = cc in omega arit
 
 end-breach : (job : Job) (n : ℕ) (a : Above) (l : ℕ) → atTextEnd n a ≡ broken-at l → BreachFrom job n a [] l
 unfolding atTextEnd
-end-breach job n beforeLayout l h = rw (← same-line n l h) (ends-early before-not-behind)
-end-breach job n (inLayout t earlier ws ns) l h = rw (← same-line n l h) (ends-early (in-not-behind t earlier ws ns))
+end-breach job n beforeLayout l h = rw (← same-line n l h) (stops-early before-not-behind)
+end-breach job n (inLayout t earlier ws ns) l h = rw (← same-line n l h) (stops-early (in-not-behind t earlier ws ns))
 end-breach job n behindLayout l h = absurd (not-broken l h)
 
 end-first : (n : ℕ) (a : Above) (l : ℕ) → atTextEnd n a ≡ broken-at l → n ≡ l
@@ -57,7 +57,7 @@ end-sound : {job : Job} (n : ℕ) (a : Above) {l : ℕ} → atTextEnd n a ≡ so
 unfolding atTextEnd
 end-sound n beforeLayout h b = not-sound n h
 end-sound n (inLayout t earlier ws ns) h b = not-sound n h
-end-sound n behindLayout h (ends-early f) = f refl
+end-sound n behindLayout h (stops-early f) = f refl
 
 -- ---- at a line
 

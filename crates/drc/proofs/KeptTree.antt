@@ -155,27 +155,27 @@ module _ (job : Job) where
 
   -- ---- one line after another
 
-  abbrev Sound-from : ℕ → ℕ → List ℕ → List Wire → List ℕ → List (Option Line) → Type 0
-  Sound-from n t earlier ws ns ls = judgeFrom job n (inLayout t earlier ws ns) ls ≡ sound-text
+  abbrev SoundFrom : ℕ → ℕ → List ℕ → List Wire → List ℕ → List (Option Line) → Type 0
+  SoundFrom n t earlier ws ns ls = judgeFrom job n (inLayout t earlier ws ns) ls ≡ sound-text
 
-  track-case : (n t : ℕ) (earlier : List ℕ) (ws : List Wire) (ns : List ℕ) (u s : ℕ) (ls : List (Option Line)) → Sound-from n t earlier ws ns (some (track u s) ∷ ls) →
-      (Sound-from (suc n) u (earlier ++ wireNumbers ws) [] ns ls → Remaining u (earlier ++ wireNumbers ws) [] ns ls) → Remaining t earlier ws ns (some (track u s) ∷ ls)
+  track-case : (n t : ℕ) (earlier : List ℕ) (ws : List Wire) (ns : List ℕ) (u s : ℕ) (ls : List (Option Line)) → SoundFrom n t earlier ws ns (some (track u s) ∷ ls) →
+      (SoundFrom (suc n) u (earlier ++ wireNumbers ws) [] ns ls → Remaining u (earlier ++ wireNumbers ws) [] ns ls) → Remaining t earlier ws ns (some (track u s) ∷ ls)
   unfolding keepsRules withLine
   track-case n t earlier ws ns u s ls h f =
       let x = passed n (inLayout t earlier ws ns) (track u s) ls h in
       let c = next-in-turn job t earlier ws ns u s (x .in-place) in
       rw (c .in-turn, c .none-loose) (track-above t earlier ws s ls (rw (c .in-turn) at (x .kept)) (rw (c .in-turn, c .none-loose) at (f (x .rest))))
 
-  wire-case : (n t : ℕ) (earlier : List ℕ) (ws : List Wire) (ns : List ℕ) (w : Wire) (ls : List (Option Line)) → Sound-from n t earlier ws ns (some (wire w) ∷ ls) →
-      (Sound-from (suc n) t earlier (ws ++ (w ∷ [])) ns ls → Remaining t earlier (ws ++ (w ∷ [])) ns ls) → Remaining t earlier ws ns (some (wire w) ∷ ls)
+  wire-case : (n t : ℕ) (earlier : List ℕ) (ws : List Wire) (ns : List ℕ) (w : Wire) (ls : List (Option Line)) → SoundFrom n t earlier ws ns (some (wire w) ∷ ls) →
+      (SoundFrom (suc n) t earlier (ws ++ (w ∷ [])) ns ls → Remaining t earlier (ws ++ (w ∷ [])) ns ls) → Remaining t earlier ws ns (some (wire w) ∷ ls)
   unfolding keepsRules withLine
   wire-case n t earlier ws ns w ls h f =
       let x = passed n (inLayout t earlier ws ns) (wire w) ls h in
       let c = under-track job t earlier ws ns w (x .in-place) in
       rw (c .none-loose) (wire-above t earlier ws w ls (c .from-track) (kept-of job t earlier ws w (x .kept)) (rw (c .none-loose) at (f (x .rest))))
 
-  loose-case : (n t : ℕ) (earlier : List ℕ) (ws : List Wire) (ns : List ℕ) (j : ℕ) (ls : List (Option Line)) → Sound-from n t earlier ws ns (some (loose j) ∷ ls) →
-      (Sound-from (suc n) t earlier ws (ns ++ (j ∷ [])) ls → Remaining t earlier ws (ns ++ (j ∷ [])) ls) → Remaining t earlier ws ns (some (loose j) ∷ ls)
+  loose-case : (n t : ℕ) (earlier : List ℕ) (ws : List Wire) (ns : List ℕ) (j : ℕ) (ls : List (Option Line)) → SoundFrom n t earlier ws ns (some (loose j) ∷ ls) →
+      (SoundFrom (suc n) t earlier ws (ns ++ (j ∷ [])) ls → Remaining t earlier ws (ns ++ (j ∷ [])) ls) → Remaining t earlier ws ns (some (loose j) ∷ ls)
   unfolding keepsRules withLine
   loose-case n t earlier ws ns j ls h f =
       let x = passed n (inLayout t earlier ws ns) (loose j) ls h in
@@ -188,17 +188,17 @@ module _ (job : Job) where
   behind-end n (none ∷ ls) h = absurd (not-sound n h)
   behind-end n (some x ∷ ls) h = absurd (not-sound n h)
 
-  closes-case : (n t : ℕ) (earlier : List ℕ) (ws : List Wire) (ns : List ℕ) (ls : List (Option Line)) → Sound-from n t earlier ws ns (some closes ∷ ls) → Remaining t earlier ws ns (some closes ∷ ls)
+  closes-case : (n t : ℕ) (earlier : List ℕ) (ws : List Wire) (ns : List ℕ) (ls : List (Option Line)) → SoundFrom n t earlier ws ns (some closes ∷ ls) → Remaining t earlier ws ns (some closes ∷ ls)
   unfolding isInPlace isInTurn endsTrack keepsRules withLine
   closes-case n t earlier ws ns ls h =
       let x = passed n (inLayout t earlier ws ns) closes ls h in
       closes-last t earlier ws ns ls (behind-end (suc n) ls (x .rest)) (eqb-true t (job .board .tracks) (x .in-place)) (x .kept)
 
-  opens-case : (n t : ℕ) (earlier : List ℕ) (ws : List Wire) (ns : List ℕ) (ls : List (Option Line)) → Sound-from n t earlier ws ns (some opens ∷ ls) → ⊥
+  opens-case : (n t : ℕ) (earlier : List ℕ) (ws : List Wire) (ns : List ℕ) (ls : List (Option Line)) → SoundFrom n t earlier ws ns (some opens ∷ ls) → ⊥
   unfolding isInPlace isInTurn
   opens-case n t earlier ws ns ls h = false≢true (passed n (inLayout t earlier ws ns) opens ls h .in-place)
 
-  remaining : (n t : ℕ) (earlier : List ℕ) (ws : List Wire) (ns : List ℕ) (ls : List (Option Line)) → Sound-from n t earlier ws ns ls → Remaining t earlier ws ns ls
+  remaining : (n t : ℕ) (earlier : List ℕ) (ws : List Wire) (ns : List ℕ) (ls : List (Option Line)) → SoundFrom n t earlier ws ns ls → Remaining t earlier ws ns ls
   unfolding judgeFrom atTextEnd
   remaining n t earlier ws ns [] h = absurd (not-sound n h)
   remaining n t earlier ws ns (none ∷ ls) h = absurd (not-sound n h)

@@ -18,7 +18,7 @@ use Rattle.sound.specs.Wires.{worthOf, wireNumbers}
 use Rattle.drc.specs.Standing.{linesRead, Above, beforeLayout, inLayout, behindLayout, withLine, numbersAbove}
 use Rattle.drc.specs.Covers.{drawnBy}
 use Rattle.drc.specs.Judge.{noneLoose, endsTrack, isInTurn, isOpening, isInPlace, isTrueSum, isSoundWire, isUnlined, isSoundLoose, keepsRules, Verdict, broken-at, atTextEnd, judgeFrom, judge}
-use Rattle.drc.specs.Pass.{Summary, emptySummary, addTrack, isNextWire, faultAfter, addWire, addLoose, PassState, unbegun, running, finished, PassStep, goes-on, decides, closedAt, unlessFault, judgedTrack, orBroken, passInTurn, passLine, passIllFormed, passStep, passEnd, afterStep, passFrom, passOver}
+use Rattle.drc.specs.Pass.{Summary, emptySummary, addTrack, isNextWire, faultAfter, addWire, addLoose, PassState, unbegun, running, finished, PassStep, passes-on, decides, closedAt, unlessFault, judgedTrack, orBroken, passInTurn, passLine, passIllFormed, passStep, passEnd, afterStep, passFrom, passOver}
 use Rattle.drc.proofs.InPlace.{nil-of}
 use Rattle.drc.proofs.KeptTree.{some-loose}
 use Rattle.drc.proofs.Summaries.{Fits, fits-empty, wired-is, fits-track, next-loose, fits-loose, next-wire, fits-wire}
@@ -37,7 +37,7 @@ settled : (m : Summary) (x : PassStep) (go : PassState → Verdict) → m .fault
 unfolding afterStep judgedTrack unlessFault
 settled m x go f = by-test (eqb (m .sum) (m .printed)) (λ e. rw (e, f)) (λ e. rw e)
 
-after-test : (n : ℕ) (q : Bool) (st : PassState) (go : PassState → Verdict) → afterStep (orBroken n q (goes-on st)) go ≡ cond q (go st) (broken-at n)
+after-test : (n : ℕ) (q : Bool) (st : PassState) (go : PassState → Verdict) → afterStep (orBroken n q (passes-on st)) go ≡ cond q (go st) (broken-at n)
 unfolding afterStep orBroken
 after-test n true st go = refl
 after-test n false st go = refl
@@ -113,18 +113,18 @@ module _ (job : Job) where
   -- ---- while no line above is broken
 
   ended-step : (n : ℕ) (m : Summary) (c q : Bool) (st : PassState) (go : PassState → Verdict) → m .fault ≡ none →
-      afterStep (cond c (judgedTrack m (orBroken n q (goes-on st))) (decides (closedAt (m .fault) n))) go ≡
+      afterStep (cond c (judgedTrack m (orBroken n q (passes-on st))) (decides (closedAt (m .fault) n))) go ≡
       cond c (cond (eqb (m .sum) (m .printed)) (cond q (go st) (broken-at n)) (broken-at (m .line))) (broken-at n)
   unfolding afterStep closedAt
   ended-step n m true q st go f =
-      settled m (orBroken n q (goes-on st)) go f ∙ ap (λ u. cond (eqb (m .sum) (m .printed)) u (broken-at (m .line))) (after-test n q st go)
+      settled m (orBroken n q (passes-on st)) go f ∙ ap (λ u. cond (eqb (m .sum) (m .printed)) u (broken-at (m .line))) (after-test n q st go)
   ended-step n m false q st go f = rw f
 
   next-step : (n : ℕ) (m : Summary) (c : Bool) (st : PassState) (go : PassState → Verdict) → m .fault ≡ none →
-      afterStep (cond c (judgedTrack m (goes-on st)) (decides (closedAt (m .fault) n))) go ≡
+      afterStep (cond c (judgedTrack m (passes-on st)) (decides (closedAt (m .fault) n))) go ≡
       cond c (cond (eqb (m .sum) (m .printed)) (go st) (broken-at (m .line))) (broken-at n)
   unfolding afterStep closedAt
-  next-step n m true st go f = settled m (goes-on st) go f
+  next-step n m true st go f = settled m (passes-on st) go f
   next-step n m false st go f = rw f
 
   -- the sum of the last track line is judged already, or there is no track line: no wire can stand there

@@ -11,7 +11,7 @@ use Rattle.board.specs.Job.{Job}
 use Rattle.layout.specs.Tree.{Wire, Line, opens, track, wire, loose, closes}
 use Rattle.sound.specs.Wires.{worthOf, sumOver, wireNumbers, wiresSum}
 use Rattle.drc.specs.Standing.{inLayout, CanStand}
-use Rattle.drc.specs.Breach.{NoWire, next-track, first-loose, closing, FalseSum}
+use Rattle.drc.specs.Breach.{NoWire, next-track, first-loose, last-line, FalseSum}
 use Rattle.drc.specs.Judge.{noneLoose, endsTrack, isInTurn, isInPlace, isTrueSum}
 use Rattle.drc.proofs.Failing.{or-fails}
 use Rattle.drc.proofs.InPlace.{can-stand-of, in-place-of}
@@ -22,7 +22,7 @@ module _ (job : Job) (u s : ℕ) where
   unfolding isInPlace isInTurn noneLoose
   ends-of (track t v) next-track earlier ws = refl
   ends-of (loose k) first-loose earlier ws = refl
-  ends-of closes closing earlier ws = refl
+  ends-of closes last-line earlier ws = refl
 
   -- a false sum, where `sum` has the wires above the lines ls
   record SumFails (sum : ℕ) (ls : List (Option Line)) : Type 0 where
@@ -55,7 +55,7 @@ module _ (job : Job) (u s : ℕ) where
   sum-fails sum (some opens ∷ ls) f = absurd (true≢false f)
   sum-fails sum (some (track t v) ∷ ls) f = ends-sum sum (track t v) ls next-track f
   sum-fails sum (some (loose k) ∷ ls) f = ends-sum sum (loose k) ls first-loose f
-  sum-fails sum (some closes ∷ ls) f = ends-sum sum closes ls closing f
+  sum-fails sum (some closes ∷ ls) f = ends-sum sum closes ls last-line f
   sum-fails sum (some (wire w) ∷ ls) f =
       let r = sum-fails (sum + worthOf job (w .number)) ls f in
       record {
@@ -85,7 +85,7 @@ module _ (job : Job) (u s : ℕ) where
   unfolding isTrueSum
   ended-fails sum (track t v) ls next-track c d = rw (c, ne-eqb sum s d)
   ended-fails sum (loose k) ls first-loose c d = rw (c, ne-eqb sum s d)
-  ended-fails sum closes ls closing c d = rw (c, ne-eqb sum s d)
+  ended-fails sum closes ls last-line c d = rw (c, ne-eqb sum s d)
 
   fails-sum : (sum : ℕ) (ws : List Wire) (x : Line) (ls : List (Option Line)) → NoWire x → endsTrack job u x ≡ true → (sum + wiresSum job ws ≡ s → ⊥) →
       isTrueSum job u s sum (map (λ v. some (wire v)) ws ++ some x ∷ ls) ≡ false

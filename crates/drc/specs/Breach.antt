@@ -19,7 +19,7 @@ use Rattle.drc.specs.Standing.{linesRead, Above, beforeLayout, inLayout,
 pub data NoWire : Line → Type 0 where
   next-track : {u s : ℕ} → NoWire (track u s)
   first-loose : {k : ℕ} → NoWire (loose k)
-  closing : NoWire closes
+  last-line : NoWire closes
 
 -- a false sum: the lines ls under track line u hold wires, then a line that can stand there, and the sum of the wires, each counted by
 -- its number, is not s. The sum is not judged where the judging closes at the line behind the wires
@@ -101,7 +101,7 @@ pub data BreachFrom (job : Job) : ℕ → Above → List (Option Line) → ℕ �
   -- at a line not of the form
   ill-formed : {n : ℕ} {a : Above} {ls : List (Option Line)} → BreachFrom job n a (none ∷ ls) n
   -- and where the text stops early: the line after the last
-  ends-early : {n : ℕ} {a : Above} → (a ≡ behindLayout → ⊥) → BreachFrom job n a [] n
+  stops-early : {n : ℕ} {a : Above} → (a ≡ behindLayout → ⊥) → BreachFrom job n a [] n
 
 -- line l of the text is broken
 abbrev pub Breach : Job → List ℕ → ℕ → Type 0

@@ -93,7 +93,7 @@ pub data PassState : Type 0 where
 
 -- what a line leads to: the pass goes on, or the verdict stands
 pub data PassStep : Type 0 where
-  goes-on : PassState → PassStep
+  passes-on : PassState → PassStep
   decides : Verdict → PassStep
 
 -- the judging closes at line n, and the sum of the last track line is not judged: a broken wire above is the verdict, or line n is
@@ -116,15 +116,15 @@ orBroken n passed x = cond passed x (decides (broken-at n))
 
 -- line n, which can stand behind `(layout` and the lines above
 unfoldable pub passInTurn : Job → ℕ → Summary → Line → PassStep
-passInTurn job n m opens = goes-on (running m)
-passInTurn job n m (track u s) = judgedTrack m (goes-on (running (addTrack n u s m)))
-passInTurn job n m (wire w) = goes-on (running (addWire job n w (drawnBy job (m .track) w) m))
-passInTurn job n m (loose k) = judgedTrack m (orBroken n (isUnlined job (m .lined) k && ltb (m .last) k) (goes-on (running (addLoose k m))))
-passInTurn job n m closes = judgedTrack m (orBroken n (allOf (isOn (m .lined)) (job .nets)) (goes-on finished))
+passInTurn job n m opens = passes-on (running m)
+passInTurn job n m (track u s) = judgedTrack m (passes-on (running (addTrack n u s m)))
+passInTurn job n m (wire w) = passes-on (running (addWire job n w (drawnBy job (m .track) w) m))
+passInTurn job n m (loose k) = judgedTrack m (orBroken n (isUnlined job (m .lined) k && ltb (m .last) k) (passes-on (running (addLoose k m))))
+passInTurn job n m closes = judgedTrack m (orBroken n (allOf (isOn (m .lined)) (job .nets)) (passes-on finished))
 
 -- line n of the form
 unfoldable pub passLine : Job → ℕ → PassState → Line → PassStep
-passLine job n unbegun x = orBroken n (isOpening x) (goes-on (running emptySummary))
+passLine job n unbegun x = orBroken n (isOpening x) (passes-on (running emptySummary))
 passLine job n (running m) x = cond (isInTurn job (m .track) (eqb (m .last) 0) x) (passInTurn job n m x) (decides (closedAt (m .fault) n))
 passLine job n finished x = decides (broken-at n)
 
@@ -147,7 +147,7 @@ passEnd n finished = sound-text
 
 -- the verdict stands, or the lines below give it
 unfoldable pub afterStep : PassStep → (PassState → Verdict) → Verdict
-afterStep (goes-on st) f = f st
+afterStep (passes-on st) f = f st
 afterStep (decides v) f = v
 
 -- the pass over the lines from line n on

@@ -1,8 +1,29 @@
-// What a program in another language can call: reading a job, and planning it. `bench/` measures both.
+// What a program in another language can call: route, and, to be measured by `bench/`, its parts: reading a job, and planning it.
 ghost use mathlib.Core.Path.{_≡_};
 ghost use Prim.Native.Nat.{_≤_};
 ghost use Rattle.jobfile.specs.Read.{readJob};
-ghost use Rattle.exports.specs.Exported.{addedUp, refusalOf, planSum};
+ghost use lib.ListN.{length};
+ghost use Rattle.planning.specs.Plan.{planOf};
+ghost use Rattle.sound.specs.Sound.{Sound};
+ghost use Rattle.routing.specs.Promises.{ShortestText, UnbeatenText};
+ghost use Rattle.router.specs.Answers.{routeAnswer, bufferAfter, OfWritten};
+ghost use Rattle.exports.specs.Exported.{addedUp, refusalOf, planSum, RepliesWith};
+
+// Routes a job into a buffer, and answers in document 01's numbers: the number of the refusal, 0 where the layout is written; through
+// `line` the line that it names, 0 where it names none; through `bytes` the length of the layout, written or needed.
+#[no_mangle]
+pub extern "C" fn hankuribo_route(job: &[u8], out: &mut [u8], line: &mut usize, bytes: &mut usize) -> usize
+    ensures { λ r. ⌜ RepliesWith (routeAnswer (readJob (now (job .entry))) (length (now (out .entry)))) r (now (line .exit)) (now (bytes .exit)) ⌝ }
+    ensures { λ _. ⌜ now (out .exit) ≡ bufferAfter (readJob (now (job .entry))) (now (out .entry)) ⌝ }
+    ensures { λ _. ⌜ OfWritten (λ j text. ShortestText j (planOf j) text) (readJob (now (job .entry))) (routeAnswer (readJob (now (job .entry))) (length (now (out .entry)))) (now (out .exit)) ⌝ }
+    ensures { λ _. ⌜ OfWritten (λ j text. Sound j text) (readJob (now (job .entry))) (routeAnswer (readJob (now (job .entry))) (length (now (out .entry)))) (now (out .exit)) ⌝ }
+    ensures { λ _. ⌜ OfWritten (λ j text. UnbeatenText j text) (readJob (now (job .entry))) (routeAnswer (readJob (now (job .entry))) (length (now (out .entry)))) (now (out .exit)) ⌝ }
+{
+    let answer = router::route(job, out);
+    *line = router::answer_line(answer);
+    *bytes = router::answer_bytes(answer);
+    router::answer_number(answer)
+}
 
 // The sums of all tracks, added up.
 fn add_up(sums: [usize; 128]) -> usize

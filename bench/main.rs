@@ -1,7 +1,8 @@
-//! Reading and planning a job, measured against the second router's whole route: same machine, same run, same jobs.
+//! Routing a job, measured against the second router: same machine, same run, same jobs.
 //!
-//! `read` is `hankuribo_read` (the job alone), `plan` is `hankuribo_plan` (the job and its plan), `route` is the second router from the
-//! job's text to the layout's. Each time is the median of several samples, and the three are sampled in turn.
+//! `read` is `hankuribo_read` (the job alone), `plan` is `hankuribo_plan` (the job and its plan), `route` is `hankuribo_route` (from the
+//! job's text to the layout's), `second` is the second router's route. Each time is the median of several samples, and the four are sampled
+//! in turn.
 
 use second_router::{gen, job, route};
 use std::hint::black_box;
@@ -10,6 +11,7 @@ use std::time::Instant;
 extern "C" {
     fn hankuribo_read(text: *const u8, len: usize) -> usize;
     fn hankuribo_plan(text: *const u8, len: usize) -> usize;
+    fn hankuribo_route(job: *const u8, len: usize, out: *mut u8, room: usize, line: *mut usize, bytes: *mut usize) -> usize;
 }
 
 fn our_read(text: &[u8]) -> usize {
@@ -20,6 +22,22 @@ fn our_plan(text: &[u8]) -> usize {
     unsafe { hankuribo_plan(text.as_ptr(), text.len()) }
 }
 
+/// Routes into `out`: the number of the refusal, the line that it names, the bytes of the layout.
+fn our_route(text: &[u8], out: &mut [u8]) -> (usize, usize, usize) {
+    let (mut line, mut bytes) = (0, 0);
+    let number = unsafe { hankuribo_route(text.as_ptr(), text.len(), out.as_mut_ptr(), out.len(), &mut line, &mut bytes) };
+    (number, line, bytes)
+}
+
+/// What the program `route` prints.
+fn our_text(text: &[u8]) -> Vec<u8> {
+    let mut out = vec![0; 64000];
+    match our_route(text, &mut out) {
+        (0, _, bytes) => out[..bytes].to_vec(),
+        (number, line, _) => format!("(refused {} {})\n", number, line).into_bytes(),
+    }
+}
+
 /// Families of the second router's generator, and how many seeds of each are taken, from 1 on.
 const FAMILIES: [(&str, u64); 6] = [("max", 12), ("dense", 3), ("blocky", 3), ("precedence", 3), ("stretch", 3), ("ties", 3)];
 
@@ -28,17 +46,8 @@ const SAMPLES: usize = 9;
 /// A sample of a short operation repeats it for about so many microseconds.
 const LEAST_SAMPLE: f64 = 500.0;
 
-/// The largest ratio of plan to route that is aimed at on the family `max`.
+/// The largest ratio of our route to the second router's that is aimed at on the family `max`.
 const AIM: f64 = 1.5;
-
-/// The sum of the numbers in the track lines of a layout; 0 for a refusal.
-fn sum_of_tracks(layout: &str) -> usize {
-    layout
-        .lines()
-        .filter_map(|line| line.strip_prefix(" (track ")?.strip_suffix(')'))
-        .map(|numbers| numbers.split(' ').nth(1).expect("a sum").parse::<usize>().expect("a number"))
-        .sum()
-}
 
 /// Microseconds of one call.
 fn time(f: &dyn Fn() -> usize, calls: usize) -> f64 {
@@ -55,21 +64,20 @@ fn median(mut samples: Vec<f64>) -> f64 {
 }
 
 /// The median of each operation; their samples are taken in turn.
-fn measure(operations: [&dyn Fn() -> usize; 3]) -> [f64; 3] {
+fn measure(operations: [&dyn Fn() -> usize; 4]) -> [f64; 4] {
     let calls = operations.map(|f| (LEAST_SAMPLE / time(f, 1)).ceil().max(1.0) as usize);
-    let mut samples = [const { Vec::new() }; 3];
+    let mut samples = [const { Vec::new() }; 4];
     for _ in 0..SAMPLES {
-        for i in 0..3 {
+        for i in 0..4 {
             samples[i].push(time(operations[i], calls[i]));
         }
     }
     samples.map(median)
 }
 
-/// Holds the answers for a job against the second router's: the refusal's number, and the sum of all tracks.
+/// Holds the answer for a job against the second router's, byte for byte.
 fn same_answers(text: &[u8]) -> bool {
-    let number = job::read(text).err().map_or(0, |refusal| refusal.number);
-    our_read(text) == number && our_plan(text) == sum_of_tracks(&route::route(text))
+    our_text(text) == route::route(text).as_bytes()
 }
 
 fn main() {
@@ -86,21 +94,30 @@ fn main() {
     if !differ.is_empty() {
         std::process::exit(1);
     }
-    println!("{} jobs: refusals and the sums of all tracks are the second router's\n", jobs.len());
+    println!("{} jobs: the answers are the second router's, byte for byte\n", jobs.len());
 
-    println!("{:<11}{:>4}{:>6}{:>6}{:>7}{:>12}{:>12}{:>12}{:>8}", "family", "seed", "rows", "nets", "tracks", "read us", "plan us", "route us", "ratio");
-    let mut ratios = Vec::new();
+    println!(
+        "{:<11}{:>4}{:>6}{:>6}{:>7}{:>11}{:>11}{:>11}{:>11}{:>7}{:>7}",
+        "family", "seed", "rows", "nets", "tracks", "read us", "plan us", "route us", "second us", "plan", "route"
+    );
+    let (mut plans, mut routes) = (Vec::new(), Vec::new());
+    let mut out = vec![0; 64000];
     for (family, seed, text) in &jobs {
         let size = job::read(text).map_or([0; 3], |job| [job.rows, job.nets.len(), job.tracks]);
-        let [read, plan, route] = measure([&|| our_read(text), &|| our_plan(text), &|| route::route(text).len()]);
+        let out = std::cell::RefCell::new(&mut out);
+        let [read, plan, ours, second] =
+            measure([&|| our_read(text), &|| our_plan(text), &|| our_route(text, &mut out.borrow_mut()).2, &|| route::route(text).len()]);
         println!(
-            "{:<11}{:>4}{:>6}{:>6}{:>7}{:>12.1}{:>12.1}{:>12.1}{:>8.2}",
-            family, seed, size[0], size[1], size[2], read, plan, route, plan / route
+            "{:<11}{:>4}{:>6}{:>6}{:>7}{:>11.1}{:>11.1}{:>11.1}{:>11.1}{:>7.2}{:>7.2}",
+            family, seed, size[0], size[1], size[2], read, plan, ours, second, plan / second, ours / second
         );
         if *family == "max" {
-            ratios.push(plan / route);
+            plans.push(plan / second);
+            routes.push(ours / second);
         }
     }
-    let worst = ratios.iter().cloned().fold(0.0, f64::max);
-    println!("\nmax: the plan takes {:.2} times the route (median), {:.2} at most; aimed at: {:.1}", median(ratios), worst, AIM);
+    for (what, ratios) in [("plan", plans), ("route", routes)] {
+        let worst = ratios.iter().cloned().fold(0.0, f64::max);
+        println!("max: our {} takes {:.2} times the second router's route (median), {:.2} at most; aimed at: {:.1}", what, median(ratios), worst, AIM);
+    }
 }

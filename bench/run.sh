@@ -1,5 +1,5 @@
 #!/bin/bash
-# Measures the plan of a job against the second router, on the same jobs in one run.
+# Measures reading, planning and routing a job against the second router, on the same jobs in one run.
 #
 #     bench/run.sh SECOND_ROUTER     the folder of the second router (its sources stand in src/), or set the variable of this name
 #

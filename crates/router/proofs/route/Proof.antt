@@ -57,7 +57,7 @@ draw-requires-2 c κs =
     let d = i .before .before in
     let p = d .before .before in
     let a = stored-at (p .before) in
-    (a, (plan-can _ a _ (p .plan-job .ensures .0), omega (arith, i .if2 .left, d .draw .ensures .used, plan-short _ a _ (p .plan-job .ensures .0))))
+    (a, (plan-can _ a _ (p .plan-job .ensures .0), omega (arith, i .if2 .left, d .draw .ensures .used)))
 
 same-length : tie.Need-same-length
 same-length c = search needs

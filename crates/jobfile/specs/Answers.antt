@@ -8,31 +8,32 @@ use Rattle.jobfile.specs.declared.Outcome.{Outcome}
 use Rattle.jobfile.specs.declared.Outcome.the-variants.{Accepted, TooLong, NotOfForm, OutOfRange, TooMany, NumberNotAbove, PinUsed, SameRow, NoLength, TooFewRows}
 use Rattle.jobfile.specs.Read.{boardOf, emptyBoard, Read, accepted, refused}
 
--- the number of a refusal; 0 where nothing is refused
-abbrev pub numberOf : Outcome → ℕ
-numberOf Accepted = 0
-numberOf TooLong = 1
-numberOf (NotOfForm k) = 2
-numberOf (OutOfRange k) = 3
-numberOf (TooMany k) = 4
-numberOf (NumberNotAbove k) = 5
-numberOf (PinUsed k) = 6
-numberOf (SameRow k) = 7
-numberOf (NoLength k) = 8
-numberOf (TooFewRows k) = 9
+-- what an outcome says in the document's numbers: the number of the refusal, 0 where nothing is refused; the line that it names, 0 where it
+-- names none
+pub record OutcomeValues : Type 0 where
+  pub number : ℕ
+  pub line : ℕ
 
--- the line that a refusal names; 0 where it names none
+-- the number and the line of each outcome of read
+abbrev pub outcomeValues : Outcome → OutcomeValues
+outcomeValues Accepted = record { number = 0; line = 0 }
+outcomeValues TooLong = record { number = 1; line = 0 }
+outcomeValues (NotOfForm k) = record { number = 2; line = k }
+outcomeValues (OutOfRange k) = record { number = 3; line = k }
+outcomeValues (TooMany k) = record { number = 4; line = k }
+outcomeValues (NumberNotAbove k) = record { number = 5; line = k }
+outcomeValues (PinUsed k) = record { number = 6; line = k }
+outcomeValues (SameRow k) = record { number = 7; line = k }
+outcomeValues (NoLength k) = record { number = 8; line = k }
+outcomeValues (TooFewRows k) = record { number = 9; line = k }
+
+-- the number of an outcome
+abbrev pub numberOf : Outcome → ℕ
+numberOf o = outcomeValues o .number
+
+-- the line of an outcome
 abbrev pub lineOf : Outcome → ℕ
-lineOf Accepted = 0
-lineOf TooLong = 0
-lineOf (NotOfForm k) = k
-lineOf (OutOfRange k) = k
-lineOf (TooMany k) = k
-lineOf (NumberNotAbove k) = k
-lineOf (PinUsed k) = k
-lineOf (SameRow k) = k
-lineOf (NoLength k) = k
-lineOf (TooFewRows k) = k
+lineOf o = outcomeValues o .line
 
 -- the job of a refusal: no rows, no tracks, every slot unused
 abbrev pub noJob : Job

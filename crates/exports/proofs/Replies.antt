@@ -28,5 +28,5 @@ reply-given x before a after p n l b e f g =
         line-is = f ∙ ap (λ (y : RouteAnswer). routeValues y .line) q;
         bytes-is = g ∙ ap (λ (y : RouteAnswer). routeValues y .bytes) q;
       },
-      rw q at (p .1)
+      rw q at (p .1 .1)
     )

@@ -5,16 +5,17 @@ use mathlib.Core.Path.{_≡_, refl, sym, ap, _∙_}
 use mathlib.Core.List.{List}
 use native.Mathlib.Omega.{arith}
 use Rattle.board.specs.Accepted.{AcceptedJob}
-use Rattle.board.specs.Stored.{jobOf, AcceptedStored}
+use Rattle.board.specs.Stored.{jobOf, storedOf, AcceptedStored}
 use Rattle.jobfile.specs.declared.Answer.{Answer}
 use Rattle.jobfile.specs.declared.Outcome.{Outcome}
 use Rattle.jobfile.specs.declared.Outcome.the-variants as Is
 use Rattle.jobfile.specs.Read.{Read, accepted, refused, readJob}
-use Rattle.jobfile.specs.Answers.{numberOf, answerOf}
+use Rattle.jobfile.specs.Answers.{numberOf, noJob, answerOf}
 use Rattle.jobfile.specs.Faults.{FirstFault}
+use Rattle.jobfile.specs.RightAnswer.{RightAnswer}
 use Rattle.jobfile.proofs.Accepts.{read-accepted}
 use Rattle.board.proofs.StoredJobs.{job-back, stored-accepted}
-use Rattle.jobfile.proofs.Refusals.{read-refused, fault-from}
+use Rattle.jobfile.proofs.Refusals.{read-refused, read-faultless, read-held, fault-from}
 
 module _ (text : List ℕ) where
   abbrev answer : Answer
@@ -71,3 +72,25 @@ module _ (text : List ℕ) (a : Answer) (n : ℕ) (e : a ≡ answerOf (readJob t
   -- any other number: the text is refused with that outcome
   pub given-refused : (n ≡ 0 → ⊥) → readJob text ≡ refused (a .outcome)
   given-refused h = refused-by (readJob text) (λ z. h (number-is ∙ z)) ∙ ap (λ (x : Answer). refused (x .outcome)) (sym e)
+
+-- beside a refusal there is no job
+pub refused-job : (o : Outcome) → answerOf (refused o) .job ≡ storedOf noJob
+unfolding answerOf
+refused-job o = refl
+
+-- the answer of read is right
+pub right-answer : (text : List ℕ) (a : Answer) → a ≡ answerOf (readJob text) → (a ≡ answerOf (readJob text)) × RightAnswer text a
+right-answer text a e =
+    let n = numberOf (a .outcome) in
+    let read : n ≡ 0 → readJob text ≡ accepted (jobOf (a .job)) = given-read text a n e refl in
+    let refused-as : (n ≡ 0 → ⊥) → readJob text ≡ refused (a .outcome) = given-refused text a n e refl in
+    (
+      e,
+      record {
+        faultless = λ z. read-faultless text (jobOf (a .job)) (read z);
+        job-held = λ z. read-held text (jobOf (a .job)) (read z);
+        job-accepted = λ z. read-accepted text (jobOf (a .job)) (read z);
+        first-fault = λ h. read-refused text (a .outcome) (refused-as h);
+        without-job = λ h. ap (λ (x : Answer). x .job) (e ∙ ap answerOf (refused-as h)) ∙ refused-job (a .outcome);
+      }
+    )

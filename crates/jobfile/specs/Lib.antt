@@ -3,3 +3,4 @@ pub mod Forms
 pub mod Read
 pub mod Answers
 pub mod Faults
+pub mod RightAnswer

@@ -17,6 +17,7 @@ ghost use Rattle.text.specs.Written.{Written};
 ghost use Rattle.jobfile.specs.Read.{within, boardOf, emptyBoard, addNet, addBlock, unless, go, stop, sized, filled, step, ended, readJob};
 ghost use Rattle.jobfile.specs.Answers.{answerOf};
 ghost use Rattle.jobfile.specs.Faults.{isBlank};
+ghost use Rattle.jobfile.specs.RightAnswer.{RightAnswer};
 ghost use Rattle.jobrules.specs.Rules.{Filled};
 ghost use Rattle.reader.specs.Cursors.{formStep};
 ghost use Rattle.reader.specs.LinesTaken.{mayStand, stateOf, onward, linesTakenOf, Held};
@@ -246,6 +247,7 @@ fn finish(stage: usize, job: StoredJob, line: usize) -> Answer
 // Reads a job: the length first, then line by line, up to the first line that is refused.
 pub fn read(text: &[u8]) -> Answer
     ensures { λ r. ⌜ r ≡ answerOf (readJob (now (text .entry))) ⌝ }
+    ensures { λ r. ⌜ RightAnswer (now (text .entry)) r ⌝ }
 {
     let mut job = jobrules::empty_job(0, 0);
     if 64000 < text.len() {

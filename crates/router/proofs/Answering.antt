@@ -25,20 +25,21 @@ use Rattle.drawer.specs.PlanText.{planText, DrawablePlan}
 use Rattle.drawer.proofs.PlanDrawable.{plan-is-route, plan-drawable}
 use Rattle.router.specs.declared.RouteAnswer.{RouteAnswer}
 use Rattle.router.specs.declared.RouteAnswer.the-variants.{Refused, TooSmall, Routed}
-use Rattle.router.specs.Answers.{routeAnswer, bufferAfter, OfWritten}
+use Rattle.router.specs.Answers.{routeValues, documentValues, routeAnswer, bufferAfter, OfWritten}
 
 -- all that route promises of its answer and of the buffer afterwards
 abbrev pub Promised : Read → List ℕ → RouteAnswer → List ℕ → Type 0
 Promised x before r after =
     (r ≡ routeAnswer x (length before)) ×
+    ((routeValues r ≡ documentValues x (length before)) ×
     ((after ≡ bufferAfter x before) ×
     (OfWritten (λ j text. ShortestText j (planOf j) text) x r after ×
     (OfWritten (λ j text. Sound j text) x r after ×
-    OfWritten (λ j text. UnbeatenText j text) x r after)))
+    OfWritten (λ j text. UnbeatenText j text) x r after))))
 
 pub refused-promised : (x : Read) (o : Outcome) (before : List ℕ) → x ≡ refused o → Promised x before (Refused o) before
-unfolding routeAnswer bufferAfter
-refused-promised x o before e = rw e (refl, (refl, (tt, (tt, tt))))
+unfolding routeAnswer documentValues bufferAfter
+refused-promised x o before e = rw e (refl, (refl, (refl, (tt, (tt, tt)))))
 
 -- the text at the start of what it stands before
 taken : (text s : List ℕ) → take (length text) (text ++ s) ≡ text
@@ -47,16 +48,16 @@ taken (b ∷ text) s = ap (λ l. b ∷ l) (taken text s)
 
 module _ (x : Read) (job : Job) (e : x ≡ accepted job) (a : AcceptedJob job) (before : List ℕ) where
   pub small-promised : (n : ℕ) → n ≡ length (routeText job) → length before < n → Promised x before (TooSmall n) before
-  unfolding routeAnswer bufferAfter
+  unfolding routeAnswer documentValues bufferAfter
   small-promised n w l =
-      rw (e, w, lt-leb (length (routeText job)) (length before) (omega arith)) (refl, (refl, (tt, (tt, tt))))
+      rw (e, w, lt-leb (length (routeText job)) (length before) (omega arith)) (refl, (refl, (refl, (tt, (tt, tt)))))
 
   pub routed-promised : (n : ℕ) (after : List ℕ) → Written (routeText job) before after n → length (routeText job) ≤ length before → Promised x before (Routed n) after
-  unfolding routeAnswer bufferAfter
+  unfolding routeAnswer documentValues bufferAfter
   routed-promised n after w l =
       let t = taken (routeText job) (drop (length (routeText job)) before) in
       rw (e, w .used, w .bytes, le-leb (length (routeText job)) (length before) l, t)
-      (refl, (refl, (route-drawn job a, (route-sound job a, route-unbeaten job a))))
+      (refl, (refl, (refl, (route-drawn job a, (route-sound job a, route-unbeaten job a)))))
 
 -- the plan of an accepted job can be drawn, its text is the one that route writes, and that is short
 module _ (stored : StoredJob) (a : AcceptedStored stored) (plan : JobPlan) (p : plan ≡ jobPlanOf (jobOf stored)) where

@@ -7,7 +7,7 @@ use lib.ListN.{length, take}
 use Rattle.board.specs.Job.{Job}
 use Rattle.text.specs.Written.{over}
 use Rattle.jobfile.specs.Read.{Read, accepted, refused}
-use Rattle.jobfile.specs.Answers.{numberOf, lineOf}
+use Rattle.jobfile.specs.Answers.{outcomeValues}
 use Rattle.routing.specs.Route.{routeText}
 use Rattle.router.specs.declared.RouteAnswer.{RouteAnswer}
 use Rattle.router.specs.declared.RouteAnswer.the-variants.{Refused, TooSmall, Routed}
@@ -21,9 +21,15 @@ pub record RouteValues : Type 0 where
 
 -- the number and values of each answer
 abbrev pub routeValues : RouteAnswer → RouteValues
-routeValues (Refused o) = record { number = numberOf o; line = lineOf o; bytes = 0 }
+routeValues (Refused o) = record { number = outcomeValues o .number; line = outcomeValues o .line; bytes = 0 }
 routeValues (TooSmall n) = record { number = 10; line = 0; bytes = n }
 routeValues (Routed n) = record { number = 0; line = 0; bytes = n }
+
+-- the number and values that the document gives a job file and a buffer: those of read's refusal; 10, no line and the length needed, if the
+-- layout has more bytes than the buffer; otherwise no refusal, and the length
+unfoldable pub documentValues : Read → ℕ → RouteValues
+documentValues (refused o) room = record { number = outcomeValues o .number; line = outcomeValues o .line; bytes = 0 }
+documentValues (accepted job) room = let n = length (routeText job) in record { number = cond (leb n room) 0 10; line = 0; bytes = n }
 
 -- the answer, by what the job file is read as and the length of the buffer: refused as read does, then 10 if the layout has more bytes
 -- than the buffer, otherwise the length

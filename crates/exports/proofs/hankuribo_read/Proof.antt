@@ -11,7 +11,7 @@ number-of-requires : tie.Need-number-of-requires
 number-of-requires c κs = search needs
 
 returns : tie.Need-returns
-returns c = number-given _ _ _ (c .before .read .ensures) (c .number-of .ensures)
+returns c = number-given _ _ _ (c .before .read .ensures .0) (c .number-of .ensures)
 
 pub hankuribo-read-spec : {M : Type 1} → statement M
 hankuribo-read-spec = tie.close (tie.spec read-requires number-of-requires returns)

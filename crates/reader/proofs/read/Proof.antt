@@ -7,6 +7,7 @@ use Prim.Native.Nat.{_-_}
 use native.Mathlib.Omega.{arith}
 use borrow.Author.Needs.{needs}
 use lib.ListN.{length}
+use Rattle.jobfile.proofs.Returned.{right-answer}
 use Rattle.reader.proofs.read.Statement.{statement}
 use Rattle.reader.proofs.read.Tie as tie
 
@@ -20,7 +21,7 @@ empty-job-requires : tie.Need-empty-job-requires Inv-loop μ-loop
 empty-job-requires c κs = search needs
 
 returns : tie.Need-returns Inv-loop μ-loop
-returns c = too-long _ _ (c .if1 .taken) (c .before .empty-job .ensures)
+returns c = right-answer _ _ (too-long _ _ (c .if1 .taken) (c .before .empty-job .ensures))
 
 start-requires : tie.Need-start-requires Inv-loop μ-loop
 start-requires c κs = search needs
@@ -57,9 +58,10 @@ number-of-requires c κs = search needs
 
 returns-2 : tie.Need-returns-2 Inv-loop μ-loop
 returns-2 c =
-    left-refused _ _ _ _ (c .before .before .before .before .before .before .before .before .before .before .before .loop .inv) _ _ (sym (c .before .before .before .before .before .before .before .before .form .given .1) ∙ c .before .before .before .before .before .before .before .before .before .before .next .ensures) _ (c .before .before .before .take-form .ensures)
+    right-answer _ _
+    (left-refused _ _ _ _ (c .before .before .before .before .before .before .before .before .before .before .before .loop .inv) _ _ (sym (c .before .before .before .before .before .before .before .before .form .given .1) ∙ c .before .before .before .before .before .before .before .before .before .before .next .ensures) _ (c .before .before .before .take-form .ensures)
     (λ z. c .before .if3 .taken (c .before .before .number-of .ensures ∙ z))
-    ∙ ap answerOf (not-too-long _ (c .before .before .before .before .before .before .before .before .before .before .before .before .before .if1 .left))
+    ∙ ap answerOf (not-too-long _ (c .before .before .before .before .before .before .before .before .before .before .before .before .before .if1 .left)))
 
 loop-less-2 : tie.Need-loop-less-2 Inv-loop μ-loop
 loop-less-2 c =
@@ -83,8 +85,9 @@ finish-requires c κs = c .before .before .before .before .loop .inv .held
 
 returns-3 : tie.Need-returns-3 Inv-loop μ-loop
 returns-3 c =
-    c .finish .ensures
-    ∙ ap answerOf (left-over _ _ _ _ (c .before .before .before .before .before .loop .inv) (sym (c .before .before .enum-told .given .1) ∙ c .before .before .before .before .next .ensures) ∙ not-too-long _ (c .before .before .before .before .before .before .before .if1 .left))
+    right-answer _ _
+    (c .finish .ensures
+    ∙ ap answerOf (left-over _ _ _ _ (c .before .before .before .before .before .loop .inv) (sym (c .before .before .enum-told .given .1) ∙ c .before .before .before .before .next .ensures) ∙ not-too-long _ (c .before .before .before .before .before .before .before .if1 .left)))
 
 pub read-spec : {M : Type 1} → statement M
 read-spec =

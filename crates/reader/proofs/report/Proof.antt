@@ -21,19 +21,19 @@ same-length : tie.Need-same-length
 same-length c = search needs
 
 returns : tie.Need-returns
-returns c = report-accepted _ _ _ (c .before .before .before .before .before .before .before .read .ensures) (c .before .before .before .before .before .before .number-of .ensures) (c .before .before .before .before .before .if1 .taken) (c .before .before .put-bytes .ensures)
+returns c = report-accepted _ _ _ (c .before .before .before .before .before .before .before .read .ensures .0) (c .before .before .before .before .before .before .number-of .ensures) (c .before .before .before .before .before .if1 .taken) (c .before .before .put-bytes .ensures)
 
 line-of-requires : tie.Need-line-of-requires
 line-of-requires c κs = search needs
 
 put-refusal-requires : tie.Need-put-refusal-requires
-put-refusal-requires c κs = let r = report-room _ _ _ (c .before .before .before .before .read .ensures) (c .before .before .before .number-of .ensures) _ (c .line-of .ensures) in omega arith
+put-refusal-requires c κs = let r = report-room _ _ _ (c .before .before .before .before .read .ensures .0) (c .before .before .before .number-of .ensures) _ (c .line-of .ensures) in omega arith
 
 same-length-2 : tie.Need-same-length-2
 same-length-2 c = search needs
 
 returns-2 : tie.Need-returns-2
-returns-2 c = report-refused _ _ _ (c .before .before .before .before .before .before .before .read .ensures) (c .before .before .before .before .before .before .number-of .ensures) _ (c .before .before .before .line-of .ensures) (c .before .before .before .before .before .if1 .left) (c .before .before .put-refusal .ensures)
+returns-2 c = report-refused _ _ _ (c .before .before .before .before .before .before .before .read .ensures .0) (c .before .before .before .before .before .before .number-of .ensures) _ (c .before .before .before .line-of .ensures) (c .before .before .before .before .before .if1 .left) (c .before .before .put-refusal .ensures)
 
 pub report-spec : {M : Type 1} → statement M
 report-spec =

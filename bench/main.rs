@@ -80,6 +80,14 @@ fn same_answers(text: &[u8]) -> bool {
     our_text(text) == route::route(text).as_bytes()
 }
 
+/// Texts of 64,000 bytes, the most that a job may have: empty lines alone; the largest job, padded with empty lines in front.
+fn long_texts() -> [(&'static str, Vec<u8>); 2] {
+    let largest = gen::generate(1, "max").expect("a family");
+    let mut padded = vec![b'\n'; 64000 - largest.len()];
+    padded.extend_from_slice(&largest);
+    [("64,000 empty lines", vec![b'\n'; 64000]), ("the largest job padded to 64,000 bytes", padded)]
+}
+
 fn main() {
     let mut jobs = Vec::new();
     for (family, seeds) in FAMILIES {
@@ -115,6 +123,11 @@ fn main() {
             plans.push(plan / second);
             routes.push(ours / second);
         }
+    }
+    println!();
+    for (what, text) in long_texts() {
+        let read = median((0..SAMPLES).map(|_| time(&|| our_read(&text), 10)).collect());
+        println!("read of {}: {:.1} us", what, read);
     }
     for (what, ratios) in [("plan", plans), ("route", routes)] {
         let worst = ratios.iter().cloned().fold(0.0, f64::max);

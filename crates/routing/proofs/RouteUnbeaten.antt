@@ -114,11 +114,12 @@ module _ (job : Job) (a : AcceptedJob job) where
 
   -- demand 3
   pub route-unbeaten : UnbeatenText job (routeText job)
-  unfolding routeLayout
+  unfolding routeText routeLayout
   route-unbeaten =
       let u = plan-unbeaten job a in
       record {
         layout = routeLayout job;
+        rendered = refl;
         read = route-read;
         count = drawn-length job 1 (planOf job) ∙ u .count;
         each = λ i h.

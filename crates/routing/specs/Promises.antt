@@ -49,9 +49,11 @@ pub record OptimalTrack (job : Job) (earlier : List ℕ) (t : ℕ) (tr : DrawnTr
   pub rival : RivalWires job earlier t (tr .wires)
   pub sum-is : wiresSum job (tr .wires) ≡ tr .sum
 
--- the text is a layout with tracks 1 to K; each is optimal where the wires of earlier tracks stand as written
+-- the text is the rendering of a layout, which reading it gives; it has tracks 1 to K, and each is optimal where the wires of earlier tracks
+-- stand as written
 pub record UnbeatenText (job : Job) (text : List ℕ) : Type 0 where
   pub layout : Layout
+  pub rendered : text ≡ layoutText layout
   pub read : readLayout text ≡ some layout
   pub count : length (layout .tracks) ≡ job .board .tracks
   pub each : (i : ℕ) → i < job .board .tracks → OptimalTrack job (trackNumbers (take i (layout .tracks))) (suc i) (getD (layout .tracks) i noTrack)

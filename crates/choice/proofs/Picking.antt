@@ -12,7 +12,7 @@ use borrow.Author.Tests.{lt-ltb, le-ltb, le-leb, lt-leb, leb-true, ltb-true, ltb
 use Rattle.lists.proofs.Cases.{by-test, and-split}
 use Rattle.candidates.specs.declared.Candidates.{Candidates}
 use Rattle.choice.specs.declared.Pick.{Pick}
-use Rattle.choice.specs.Filled.{stands, sumAt, better, pickTo, RowInBounds}
+use Rattle.choice.specs.Filled.{stands, sumAt, better, pickTo, pickAmong, RowInBounds}
 
 -- the step on a pick
 pub better-more : (p : Pick) (sum net : ℕ) → p .sum < sum → better p sum net ≡ record { sum = sum; at = net }
@@ -55,24 +55,34 @@ module _ (c : Candidates) (flags best : List ℕ) (j i : ℕ) where
   unfolding pickTo
   pick-suc-passed s = rw s
 
-  -- as the loop has it: `can` is what `can_stand` answered, p the pick before and r the one after
-  pub pick-taken : {can : Bool} {p q r : Pick} → can ≡ Can → p ≡ pickTo c flags best j i → can ≡ true → r ≡ q →
-      q ≡ better p (sumAt c best j i) (getD (c .net) i 0) → r ≡ pickTo c flags best j (i + 1)
-  pick-taken a h t f e = rw (add-one i, pick-suc-taken (sym a ∙ t), ← h) (f ∙ e)
+-- the pick over a list with one listed candidate more, as the loop has it: `can` is what `can_stand` answered, p the pick before and r
+-- the one after
+module _ (c : Candidates) (flags best : List ℕ) (j : ℕ) (index : List ℕ) (k : ℕ) where
+  abbrev Next : ℕ
+  Next = getD index k 0
 
-  pub pick-passed : {can : Bool} {p r : Pick} → can ≡ Can → p ≡ pickTo c flags best j i → can ≡ false → r ≡ p → r ≡ pickTo c flags best j (i + 1)
-  pick-passed a h t f = rw (add-one i, pick-suc-passed (sym a ∙ t)) (f ∙ h)
+  pub pick-taken : {can : Bool} {p q r : Pick} → can ≡ stands (c .first) (c .last) flags j Next → p ≡ pickAmong c flags best j index k → can ≡ true → r ≡ q →
+      q ≡ better p (sumAt c best j Next) (getD (c .net) Next 0) → r ≡ pickAmong c flags best j index (k + 1)
+  unfolding pickAmong
+  pick-taken a h t f e = rw (add-one k, sym a ∙ t, ← h) (f ∙ e)
 
--- a candidate that can stand at row j has the row below it in the table, and its sum is not too large
-module _ (c : Candidates) (flags best : List ℕ) (j : ℕ) (b : RowInBounds c flags best j) where
+  pub pick-passed : {can : Bool} {p r : Pick} → can ≡ stands (c .first) (c .last) flags j Next → p ≡ pickAmong c flags best j index k → can ≡ false → r ≡ p →
+      r ≡ pickAmong c flags best j index (k + 1)
+  unfolding pickAmong
+  pick-passed a h t f = rw (add-one k, sym a ∙ t) (f ∙ h)
+
+-- a listed candidate that can stand at row j has the row below it in the table, and its sum is not too large
+module _ (c : Candidates) (flags best : List ℕ) (j : ℕ) (index : List ℕ) (b : RowInBounds c flags best j index) where
   pub record Room (i : ℕ) : Type 0 where
+    pub slot-range : i < 512
     pub ends : j + getD (c .need) i 0 ≤ 1025
     pub sum-low : getD (c .worth) i 0 + getD best (j + getD (c .need) i 0) 0 ≤ 4194304
 
-  pub stands-room : (i : ℕ) {can : Bool} → i < c .count → can ≡ stands (c .first) (c .last) flags j i → can ≡ true → Room i
-  stands-room i h e t =
-      let w = stands-within (c .first) (c .last) flags j i (sym e ∙ t) in
-      record { ends = b .room i h (w .1); sum-low = b .low i h (w .1) }
+  pub stands-room : (k : ℕ) {can : Bool} → k < c .count → can ≡ stands (c .first) (c .last) flags j (getD index k 0) → can ≡ true → Room (getD index k 0)
+  stands-room k h e t =
+      let w = stands-within (c .first) (c .last) flags j (getD index k 0) (sym e ∙ t) in
+      let l = b .listed k h in
+      record { slot-range = l .slot-range; ends = l .room (w .1); sum-low = l .low (w .1) }
 
 -- where no sum of a candidate that can stand at row j is above m, and that of the next row is not, the pick is not
 pub pick-low : (c : Candidates) (flags best : List ℕ) (j m : ℕ) → getD best (j + 1) 0 ≤ m →

@@ -1,4 +1,4 @@
--- What `row_pick` and `fill` compute, over the arrays of the candidates. FilledPlan.antt in proofs/ shows that it is the plan of the track.
+-- What `band_of`, `row_pick` and `fill` compute, over the arrays of the candidates. FilledPlan.antt in proofs/ shows that it is the plan of the track.
 use Prim.Native.Nat.{ℕ, zero, suc, _+_, _*_, _-_, _≤_, _<_}
 use mathlib.Core.Bool.{Bool, cond, _&&_}
 use mathlib.Core.List.{List}
@@ -6,6 +6,7 @@ use lib.Dec.{leb, ltb, eqb}
 use lib.ListN.{length, getD, set, replicate}
 use Rattle.candidates.specs.declared.Candidates.{Candidates}
 use Rattle.choice.specs.declared.Pick.{Pick}
+use Rattle.choice.specs.declared.Band.{Band}
 use Rattle.choice.specs.declared.TrackPlan.{TrackPlan}
 use Rattle.choice.specs.TrackPlans.{noChoice}
 
@@ -32,6 +33,25 @@ pickTo c flags best j zero = record { sum = getD best (j + 1) 0; at = noChoice }
 pickTo c flags best j (suc i) =
     let p = pickTo c flags best j i in cond (stands (c .first) (c .last) flags j i) (better p (sumAt c best j i) (getD (c .net) i 0)) p
 
+-- candidate i has a top in rows lo to hi
+unfoldable pub inBand : List ℕ → List ℕ → ℕ → ℕ → ℕ → Bool
+inBand first last lo hi i = leb (getD first i 0) hi && leb lo (getD last i 0)
+
+-- those of the first i candidates that have a top in rows lo to hi, rising
+unfoldable pub bandTo : List ℕ → List ℕ → ℕ → ℕ → ℕ → Band
+bandTo first last lo hi zero = record { count = 0; index = replicate 512 0 }
+bandTo first last lo hi (suc i) =
+    let b = bandTo first last lo hi i in
+    cond (inBand first last lo hi i) (record { count = b .count + 1; index = set (b .index) (b .count) i }) b
+
+-- the pick of row j after the first k candidates of a list of indexes: as pickTo, with the k-th listed in place of the k-th
+unfoldable pub pickAmong : Candidates → List ℕ → List ℕ → ℕ → List ℕ → ℕ → Pick
+pickAmong c flags best j index zero = record { sum = getD best (j + 1) 0; at = noChoice }
+pickAmong c flags best j index (suc k) =
+    let p = pickAmong c flags best j index k in
+    let i = getD index k 0 in
+    cond (stands (c .first) (c .last) flags j i) (better p (sumAt c best j i) (getD (c .net) i 0)) p
+
 -- rows j, j − 1, .. to 1 are still to be filled
 unfoldable pub fillFrom : Candidates → List ℕ → ℕ → List ℕ → List ℕ → TrackPlan
 fillFrom c flags zero best choice = record { choice = choice; sum = getD best 1 0 }
@@ -55,10 +75,16 @@ pub record InBounds (c : Candidates) (flags : List ℕ) (rows : ℕ) : Type 0 wh
   pub flags-range : c .count * 1024 ≤ length flags
   pub slots : (i : ℕ) → i < c .count → SlotInBounds c rows i
 
--- what `row_pick` asks at row j: the row below each candidate that has a top there is in the table, and no sum is too large
-pub record RowInBounds (c : Candidates) (flags best : List ℕ) (j : ℕ) : Type 0 where
+-- what the pick of row j asks of candidate i: its arrays and flags have a place for it, and where it has a top at row j, the row below it
+-- is in the table and the sum is not too large
+pub record PickInBounds (c : Candidates) (flags best : List ℕ) (j i : ℕ) : Type 0 where
+  pub slot-range : i < 512
+  pub flags-range : i * 1024 + 1024 ≤ length flags
+  pub room : j ≤ getD (c .last) i 0 → j + getD (c .need) i 0 ≤ 1025
+  pub low : j ≤ getD (c .last) i 0 → getD (c .worth) i 0 + getD best (j + getD (c .need) i 0) 0 ≤ 4194304
+
+-- what `row_pick` asks at row j, where c .count candidates are listed
+pub record RowInBounds (c : Candidates) (flags best : List ℕ) (j : ℕ) (index : List ℕ) : Type 0 where
   pub row-range : (1 ≤ j) × (j ≤ 1024)
   pub count-range : c .count ≤ 512
-  pub flags-range : c .count * 1024 ≤ length flags
-  pub room : (i : ℕ) → i < c .count → j ≤ getD (c .last) i 0 → j + getD (c .need) i 0 ≤ 1025
-  pub low : (i : ℕ) → i < c .count → j ≤ getD (c .last) i 0 → getD (c .worth) i 0 + getD best (j + getD (c .need) i 0) 0 ≤ 4194304
+  pub listed : (k : ℕ) → k < c .count → PickInBounds c flags best j (getD index k 0)

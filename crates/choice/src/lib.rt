@@ -2,7 +2,7 @@
 ghost use mathlib.Core.Path.{_≡_};
 ghost use Prim.Native.Nat.{_+_, _*_, _≤_, _<_};
 ghost use lib.ListN.{length};
-ghost use Rattle.choice.specs.Filled.{lent, stands, better, pickTo, filled, InBounds, RowInBounds};
+ghost use Rattle.choice.specs.Filled.{lent, stands, better, inBand, bandTo, pickAmong, filled, InBounds, RowInBounds};
 use board::Row;
 use candidates::Candidates;
 
@@ -17,6 +17,12 @@ pub struct TrackPlan {
 pub struct Pick {
     pub sum: usize,
     pub at: usize,
+}
+
+// The candidates that have a top in a band of rows: how many, and their indexes from place 0 on, rising.
+pub struct Band {
+    pub count: usize,
+    pub index: [usize; 512],
 }
 
 // The pick after one more net: it takes over only where its sum is more, so that of equal nets the first in the list is chosen.
@@ -49,10 +55,55 @@ fn can_stand<'a>(
     false
 }
 
-// best(j) and the choice for row j, in one pass over the candidates; best[r] is best(r) for the rows r below j. The arrays of the
-// candidates are lent one by one, since the struct by value would be copied at each row.
-fn row_pick<'a>(
+// Whether candidate i has a top in rows lo to hi.
+fn has_top<'a>(first: &'a [usize; 512], last: &'a [usize; 512], i: usize, lo: Row, hi: Row) -> bool
+    requires { ⌜ i < 512 ⌝ }
+    ensures { λ r. ⌜ r ≡ inBand (now (first .entry)) (now (last .entry)) (lo .0) (hi .0) i ⌝ }
+{
+    let start = lo.0;
+    let end = hi.0;
+    (first[i] <= end) & (start <= last[i])
+}
+
+// The candidates that have a top in rows lo to hi.
+fn band_of<'a>(
     count: usize,
+    first: &'a [usize; 512],
+    last: &'a [usize; 512],
+    lo: Row,
+    hi: Row,
+) -> Band
+    requires { ⌜ count ≤ 512 ⌝ }
+    ensures { λ r. ⌜ r ≡ bandTo (now (first .entry)) (now (last .entry)) (lo .0) (hi .0) count ⌝ }
+{
+    let mut index = [0usize; 512];
+    let mut listed = 0;
+    for i in 0..count {
+        if has_top(first, last, i, lo, hi) {
+            index[listed] = i;
+            listed += 1;
+        }
+    }
+    Band {
+        count: listed,
+        index,
+    }
+}
+
+// The first row of the band of a row: 64 rows a band. How large a band is decides the time alone, not the plan.
+fn band_start(row: Row) -> Row
+    requires { ⌜ (1 ≤ row .0) × (row .0 ≤ 1024) ⌝ }
+    ensures { λ r. ⌜ (1 ≤ r .0) × (r .0 ≤ row .0) ⌝ }
+{
+    let at = row.0 - 1;
+    Row(at / 64 * 64 + 1)
+}
+
+// best(j) and the choice for row j, in one pass over the listed candidates; best[r] is best(r) for the rows r below j. The arrays of
+// the candidates are lent one by one, since the struct by value would be copied at each row.
+fn row_pick<'a>(
+    listed: usize,
+    index: &'a [usize; 512],
     net: &'a [usize; 512],
     need: &'a [usize; 512],
     worth: &'a [usize; 512],
@@ -62,13 +113,14 @@ fn row_pick<'a>(
     best: &[usize; 1026],
     row: Row,
 ) -> Pick
-    requires { ⌜ RowInBounds (lent count (now net) (now need) (now worth) (now first) (now last)) (now flags) (now best) (row .0) ⌝ }
-    ensures { λ r. ⌜ r ≡ pickTo (lent count (now (net .entry)) (now (need .entry)) (now (worth .entry)) (now (first .entry)) (now (last .entry))) (now (flags .entry)) (now (best .entry)) (row .0) count ⌝ }
+    requires { ⌜ RowInBounds (lent listed (now net) (now need) (now worth) (now first) (now last)) (now flags) (now best) (row .0) (now index) ⌝ }
+    ensures { λ r. ⌜ r ≡ pickAmong (lent listed (now (net .entry)) (now (need .entry)) (now (worth .entry)) (now (first .entry)) (now (last .entry))) (now (flags .entry)) (now (best .entry)) (row .0) (now (index .entry)) listed ⌝ }
 {
     let j = row.0;
     let next = best[j + 1];
     let mut p = Pick { sum: next, at: 512 };
-    for i in 0..count {
+    for k in 0..listed {
+        let i = index[k];
         if can_stand(first, last, flags, i, row) {
             let value = worth[i];
             let sum = value + best[j + need[i]];
@@ -78,17 +130,29 @@ fn row_pick<'a>(
     p
 }
 
-// The plan of a track from its candidates: best(j) and the choice for each row j, from the last row up.
+// The plan of a track from its candidates: best(j) and the choice for each row j, from the last row up. Where j enters a band of
+// rows, the candidates that have a top in it are listed, so that no row looks at the others; `start` is the first row of that band.
 pub fn fill(c: Candidates, flags: &[u8], rows: usize) -> TrackPlan
     requires { ⌜ InBounds c (now flags) rows ⌝ }
     ensures { λ r. ⌜ r ≡ filled c (now (flags .entry)) rows ⌝ }
 {
     let mut best = [0usize; 1026];
     let mut choice = [512usize; 1024];
+    let mut start = rows + 1;
+    let mut listed = Band {
+        count: 0,
+        index: [0usize; 512],
+    };
     let mut j = rows;
     while 0 < j {
+        if j < start {
+            let from = band_start(Row(j));
+            listed = band_of(c.count, &c.first, &c.last, from, Row(j));
+            start = from.0;
+        }
         let p = row_pick(
-            c.count,
+            listed.count,
+            &listed.index,
             &c.net,
             &c.need,
             &c.worth,

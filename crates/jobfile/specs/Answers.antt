@@ -1,5 +1,5 @@
--- Document 01, "Operations", read: the number and the line of each outcome, and what read returns. Only this definition gives the
--- document's numbers.
+-- Document 01, "Operations", read: the document's number and the line of each outcome of read, and what read returns. The numbers above 9
+-- are not read's: they stand in the definitions of route's and check's own answers.
 use Prim.Native.Nat.{ℕ}
 use Rattle.board.specs.Job.{Job}
 use Rattle.board.specs.Stored.{storedOf}

@@ -13,17 +13,18 @@ use Rattle.board.specs.Placement.{Placement}
 use Rattle.layout.specs.Tree.{Point}
 use Rattle.layout.specs.Drawing.{wireColumn}
 
--- the row of the first point in column c
+-- the row of the first point in column c, if one stands there
 unfoldable pub firstIn : ℕ → List Point → Option ℕ
 firstIn c [] = none
 firstIn c (p ∷ ps) = cond (eqb (p .column) c) (some (p .row)) (firstIn c ps)
 
--- the row of the last point in column c, or d
+-- the row of the last point in column c; d if none stands there
 unfoldable pub lastIn : ℕ → ℕ → List Point → ℕ
 lastIn c d [] = d
 lastIn c d (p ∷ ps) = lastIn c (cond (eqb (p .column) c) (p .row) d) ps
 
--- the one placement of net n that the points can draw on track t: plain if no point stands in the wire column
+-- the one placement of net n that the points can draw on track t, by the row of the first point in the track's wire column: plain if
+-- there is none
 unfoldable pub placementFrom : Net → List Point → ℕ → Option ℕ → Placement
 placementFrom n ps t none = record { net = n; shape = Plain; top = upper n }
 placementFrom n ps t (some u) =
@@ -34,6 +35,6 @@ placementFrom n ps t (some u) =
 unfoldable pub placementOf : ℕ → Net → List Point → Placement
 placementOf t n ps = placementFrom n ps t (firstIn (wireColumn t) ps)
 
--- the net with number k
+-- the net of the job with number k, if there is one
 unfoldable pub netNumbered : Job → ℕ → Option Net
 netNumbered job k = firstOf (λ n. eqb (n .number) k) (job .nets)

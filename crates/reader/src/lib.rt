@@ -33,16 +33,21 @@ pub enum FormStep {
     End,
 }
 
-// How far the lines above go: nothing yet, behind `(board`, behind `(rows H)`, behind `(tracks K)` among nets and blocks, behind the
-// closing bracket.
+// The stages: how far the lines above go.
+
+// Nothing stands above.
 const START: usize = 0;
 
+// `(board` stands above.
 const OPENED: usize = 1;
 
+// `(rows H)` too.
 const SIZED: usize = 2;
 
+// `(tracks K)` too, and any nets and blocks behind it.
 const FILLED: usize = 3;
 
+// The closing bracket too.
 const CLOSED: usize = 4;
 
 // What the lines above hold: the outcome of the last of them, the stage that they come to, and the job so far.

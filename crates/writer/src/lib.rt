@@ -233,6 +233,7 @@ pub fn closing_line(out: &mut [u8]) -> usize
 
 // The same with a place: the rest of the buffer from there on is lent to the line writer. Each returns the next place.
 
+// Writes the line of a wire from a place on.
 pub fn put_wire(
     out: &mut [u8],
     at: usize,
@@ -249,6 +250,7 @@ pub fn put_wire(
     at + wire_line(&mut out[at..], board, track, net, shape, top)
 }
 
+// Writes the line of a track from a place on.
 pub fn put_track(out: &mut [u8], at: usize, track: Track, sum: usize) -> usize
     requires { ⌜ at + length (endedLine (trackLine (track .0) sum)) ≤ length (now out) ⌝ }
     ensures { λ e. ⌜ WrittenAt at (endedLine (trackLine (track .0) sum)) (now (out .entry)) (now (out .exit)) e ⌝ }
@@ -256,6 +258,7 @@ pub fn put_track(out: &mut [u8], at: usize, track: Track, sum: usize) -> usize
     at + track_line(&mut out[at..], track, sum)
 }
 
+// Writes the line of a loose net from a place on.
 pub fn put_loose(out: &mut [u8], at: usize, number: usize) -> usize
     requires { ⌜ at + length (endedLine (looseLine number)) ≤ length (now out) ⌝ }
     ensures { λ e. ⌜ WrittenAt at (endedLine (looseLine number)) (now (out .entry)) (now (out .exit)) e ⌝ }
@@ -263,6 +266,7 @@ pub fn put_loose(out: &mut [u8], at: usize, number: usize) -> usize
     at + loose_line(&mut out[at..], number)
 }
 
+// Writes the first line from a place on.
 pub fn put_opening(out: &mut [u8], at: usize) -> usize
     requires { ⌜ at + length (endedLine openingLine) ≤ length (now out) ⌝ }
     ensures { λ e. ⌜ WrittenAt at (endedLine openingLine) (now (out .entry)) (now (out .exit)) e ⌝ }
@@ -270,6 +274,7 @@ pub fn put_opening(out: &mut [u8], at: usize) -> usize
     at + opening_line(&mut out[at..])
 }
 
+// Writes the last line from a place on.
 pub fn put_closing(out: &mut [u8], at: usize) -> usize
     requires { ⌜ at + length (endedLine closingLine) ≤ length (now out) ⌝ }
     ensures { λ e. ⌜ WrittenAt at (endedLine closingLine) (now (out .entry)) (now (out .exit)) e ⌝ }

@@ -1,5 +1,5 @@
--- Back from points: the one placement of a net that they can draw on a track; and the net of a number.
-use Prim.Native.Nat.{ℕ, _-_, min, max}
+-- Back from points: the one placement of a net that they can draw on a track, where its rows hold the fixed ones; and the net of a number.
+use Prim.Native.Nat.{ℕ, _-_, _≤_, min, max}
 use mathlib.Core.Bool.{cond}
 use mathlib.Core.Option.{Option, none, some}
 use mathlib.Core.List.{List, [], _∷_}
@@ -7,11 +7,16 @@ use lib.Dec.{eqb}
 use Rattle.lists.specs.Lists.{firstOf}
 use Rattle.board.specs.declared.Net.{Net}
 use Rattle.board.specs.declared.Shape.the-variants.{Plain, Stretched}
-use Rattle.board.specs.Length.{upper, span}
+use Rattle.board.specs.Length.{upper, lower, span}
 use Rattle.board.specs.Job.{Job}
-use Rattle.board.specs.Placement.{Placement}
+use Rattle.board.specs.Placement.{Placement, bottom}
 use Rattle.layout.specs.Tree.{Point}
 use Rattle.layout.specs.Drawing.{wireColumn}
+
+-- the rows of p hold the fixed rows of its net
+pub record Fixed (p : Placement) : Type 0 where
+  pub over-upper : p .top ≤ upper (p .net)
+  pub under-lower : lower (p .net) ≤ bottom p
 
 -- the row of the first point in column c, if one stands there
 unfoldable pub firstIn : ℕ → List Point → Option ℕ

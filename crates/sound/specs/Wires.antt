@@ -48,3 +48,8 @@ lineNumbers l = trackNumbers (l .tracks) ++ l .loose
 -- the sum of wires: each counts by its number
 unfoldable pub wiresSum : Job → List Wire → ℕ
 wiresSum job ws = sumOver (worthOf job) (wireNumbers ws)
+
+-- the sum of the numbers of the track lines
+unfoldable pub printedSum : List DrawnTrack → ℕ
+printedSum [] = 0
+printedSum (tr ∷ trs) = tr .sum + printedSum trs

@@ -10,7 +10,8 @@ use Rattle.board.proofs.Lengths.{rows-21, rows-20, rows-14, min-22, min-8}
 use Rattle.text.specs.Bytes.{bytes}
 use Rattle.jobfile.specs.declared.Outcome.the-variants.{NotOfForm, NoLength}
 use Rattle.jobfile.specs.Read.{boardOf, emptyBoard}
-use Rattle.jobfile.proofs.Texts.{readAs, worked-board}
+use Rattle.jobfile.specs.TextsRead.{readAs}
+use Rattle.jobfile.proofs.Texts.{worked-board}
 use Rattle.routing.specs.Route.{routeText}
 use Rattle.routing.proofs.WorkedLayout.{computedText, worked-text}
 use Rattle.starred.specs.Boards.{AsStated, starredBoards}

@@ -38,6 +38,11 @@ nextText p q = cond (samePoint p q) [] (pointText q)
 unfoldable pub threeText : Point → Point → Point → Point → List ℕ
 threeText p q r s = (nextText p q ++ nextText q r) ++ nextText r s
 
+-- the points of a stretched wire behind p, the one where its stretched part begins: that part's end at row v, the via column c at rows v and r,
+-- and the right pins in column w
+unfoldable pub tailText : ℕ → ℕ → Point → ℕ → ℕ → List ℕ
+tailText c w p r v = threeText p (at (c + 1) v) (at c v) (at c r) ++ nextText (at c r) (at w r)
+
 -- points behind point p, each left out where it is equal to the one before
 unfoldable pub pathText : Point → List Point → List ℕ
 pathText p [] = []

@@ -38,7 +38,8 @@ pub record AcceptedNet (board : Board) (n : Net) : Type 0 where
   pub some-length : Allowed board n some-shape
   pub fits-board : needed board n ≤ board .rows
 
--- and of the whole job: 4, at most 512 nets and 256 blocks; 5, numbers rise; 6, no left row and no right row is used twice
+-- a job that no refusal 3 to 9 turns away: its board, nets and blocks as above; 4, at most 512 nets and 256 blocks; 5, numbers rise;
+-- 6, no left row and no right row is used twice
 pub record AcceptedJob (job : Job) : Type 0 where
   pub board-range : BoardInRange (job .board)
   pub nets-count : length (job .nets) ≤ 512

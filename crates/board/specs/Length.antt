@@ -33,12 +33,12 @@ abbrev pub extra : Shape → ℕ
 extra Plain = 0
 extra (Stretched e) = e
 
--- the possible lengths: D, and D + 2e + 2 for each stretch e
+-- the length of a net in a shape: D if plain, D + 2e + 2 with stretch e; these are its possible lengths
 abbrev pub lengthOf : Board → Net → Shape → ℕ
 lengthOf board n Plain = plainLength board n
 lengthOf board n (Stretched e) = plainLength board n + 2 * e + 2
 
--- allowed: min ≤ length ≤ max
+-- the length of the net in this shape is allowed: min ≤ length ≤ max
 pub record Allowed (board : Board) (n : Net) (s : Shape) : Type 0 where
   pub long : n .min ≤ lengthOf board n s
   pub short : lengthOf board n s ≤ n .max

@@ -27,7 +27,7 @@ pub record Rival (job : Job) (earlier : List ℕ) (t : ℕ) (ps : List Placement
   pub rising : EachPair (λ p q. p .top < q .top) ps
   pub apart : EachPair Apart ps
 
--- its sum: what its nets are worth, whatever the lengths drawn
+-- the sum of a rival sequence: what its nets are worth, whatever the lengths drawn
 unfoldable pub rivalSum : Board → List Placement → ℕ
 rivalSum board [] = 0
 rivalSum board (p ∷ ps) = worth board (p .net) + rivalSum board ps

@@ -5,10 +5,12 @@ ghost use Rattle.board.specs.Length as lengths;
 ghost use Rattle.board.specs.Placement as placements;
 ghost use Rattle.board.specs.Accepted.{BoardInRange, NetInRange};
 
-// A row of the channel, 1 to 1,024 from the top; 0 only in an unused slot of a job by value. A row's bit and array index are row − 1.
+// A row of the channel, 1 to 1,024 from the top; its bit and array index are row − 1. Another number stands only in an unused slot of a job by
+// value (0), and in the net or block of a line that is not yet tested, which `reader::take_form` makes from the numbers of the line.
 pub struct Row(pub usize);
 
-// A track of the channel, 1 to 128 from the left; 0 only in an unused slot of a job by value.
+// A track of the channel, 1 to 128 from the left. Another number stands only in an unused slot of a job by value (0), and in the block of a
+// line that is not yet tested.
 pub struct Track(pub usize);
 
 // The size of the channel: H rows and K tracks.

@@ -16,18 +16,18 @@ use Rattle.candidates.specs.declared.NetTops.{NetTops}
 use Rattle.candidates.specs.Placed.{padded, Placed, placedNumbers}
 pub use Rattle.blockmap.specs.Clear.{flag}
 
--- the eligible nets among ns, the first of which has index i
+-- a candidate: one net, and its index among the nets of the job
 pub record Candidate : Type 0 where
   pub index : ℕ
   pub net : Net
 
--- the candidates among ns, in their order
+-- the eligible nets among ns, in their order, where the first of ns has index i
 unfoldable pub candidatesFrom : Job → List ℕ → ℕ → List Net → List Candidate
 candidatesFrom job earlier i [] = []
 candidatesFrom job earlier i (n ∷ ns) =
     let rest = candidatesFrom job earlier (suc i) ns in cond (isEligible job earlier n) (record { index = i; net = n } ∷ rest) rest
 
--- the candidates of the job for a track
+-- the candidates of the job for a track, where `earlier` has the numbers of the nets on earlier tracks
 unfoldable pub candidatesOf : Job → List ℕ → List Candidate
 candidatesOf job earlier = candidatesFrom job earlier 0 (job .nets)
 

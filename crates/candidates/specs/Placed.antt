@@ -30,7 +30,8 @@ indexFrom f i (n ∷ ns) = let rest = indexFrom f (suc i) ns in cond (f n) i res
 unfoldable pub precedingOf : Job → List ℕ
 precedingOf job = padded 512 (map (λ n. indexFrom (λ m. isBefore m n) 0 (job .nets)) (job .nets))
 
--- where placed[k] is the track of net k, 0 if it stands on none: net i stands on none, and the net before it, if there is one, stands on one
+-- where placed[k] is the track of net k, 0 if it stands on none: net i stands on none, and net `before`, which precedes it, stands on one;
+-- 512 if none precedes it
 unfoldable pub eligibleAt : ℕ → List ℕ → ℕ → Bool
 eligibleAt before placed i = eqb (getD placed i 0) 0 && (eqb before 512 || not (eqb (getD placed before 0) 0))
 
@@ -38,7 +39,7 @@ eligibleAt before placed i = eqb (getD placed i 0) 0 && (eqb before 512 || not (
 pub record Placed (job : Job) (placed earlier : List ℕ) : Type 0 where
   pub each : (k : ℕ) → k < length (job .nets) → isOn earlier (getD (job .nets) k noNet) ≡ not (eqb (getD placed k 0) 0)
 
--- such a list: the numbers of the nets that have a track, in the job's order
+-- the numbers of those of some nets that have a track, in their order, where the first of the nets has index i
 unfoldable pub numbersFrom : List ℕ → ℕ → List Net → List ℕ
 numbersFrom placed i [] = []
 numbersFrom placed i (n ∷ ns) = let rest = numbersFrom placed (suc i) ns in cond (eqb (getD placed i 0) 0) rest (n .number ∷ rest)

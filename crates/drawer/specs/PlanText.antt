@@ -21,7 +21,7 @@ use Rattle.planner.specs.Chosen.{tracksOf, looseNets}
 unfoldable pub planLayout : Job → JobPlan → Layout
 planLayout job plan = record { tracks = drawnTracks (job .board) 1 (tracksOf job plan); loose = map (λ n. n .number) (looseNets job plan) }
 
--- its text
+-- the text of a plan: that of its layout
 unfoldable pub planText : Job → JobPlan → List ℕ
 planText job plan = layoutText (planLayout job plan)
 

@@ -2,9 +2,8 @@
 -- router, a program written from document 01 and order 3 by others. Assumes nothing.
 use Prim.Native.Nat.{ℕ}
 use mathlib.Core.Path.{_≡_, refl}
-use mathlib.Core.List.{List, [], _∷_}
+use mathlib.Core.List.{List}
 use Rattle.lists.specs.Lists.{anyOf, allOf, firstOf}
-use Rattle.board.specs.declared.Net.{Net}
 use Rattle.board.specs.Length.{width, upper, lower, span, plainLength, shortest, needed, worth}
 use Rattle.board.specs.Job.{Job, closes, blocked}
 use Rattle.board.specs.Tests.{isLong, isShort, isFromOne, isOverUpper, isUnderLower, isToLast, clearRows, isClear, isOn, isBefore, isReady}
@@ -20,6 +19,7 @@ use Rattle.drc.specs.Standing.{isEnded, readEach, linesRead, withLine}
 use Rattle.drc.specs.Covers.{samePoints, isOnBoard, drawnOf, drawnFrom, drawnBy, trackDrawn, coversOf}
 use Rattle.drc.specs.Judge.{noneLoose, endsTrack, isInTurn, isOpening, isInPlace, isTrueSum, isBelow, isSoundPlace, isSoundWire, isUnlined, isSoundLoose, keepsRules, Verdict, sound-text, broken-at, atTextEnd, judgeFrom, judge}
 use Rattle.drc.specs.Pass.{isNextWire, lowestOf, faultAfter, closedAt, unlessFault, judgedTrack, orBroken, passInTurn, passLine, passIllFormed, passStep, passEnd, afterStep, passFrom, passOver}
+use Rattle.drc.specs.LongNet.{longJob}
 
 -- the verdict on a text. To unfold this is to unfold all that it computes with
 unfoldable pub computed : Job → List ℕ → Verdict
@@ -30,13 +30,6 @@ computed job text = judge job text
 unfoldable passed : Job → List ℕ → Verdict
 unfolding computed passOver passFrom afterStep passEnd passStep passIllFormed passLine passInTurn orBroken judgedTrack unlessFault closedAt faultAfter lowestOf isNextWire
 passed job text = passOver job text
-
--- rows 10, tracks 1, (net 1 4 6 5 20): n = 3 at its shortest, and lengths to 19 are allowed
-abbrev longNet : Net
-longNet = record { number = 1; left = record { 0 = 4 }; right = record { 0 = 6 }; min = 5; max = 20 }
-
-abbrev longJob : Job
-longJob = record { board = record { rows = 10; tracks = 1 }; nets = longNet ∷ []; blocks = [] }
 
 -- the text that document 01 prints
 pub worked-sound : judge workedJob (bytes "(layout\n (track 1 9)\n (wire 1 (0 2) (1 2) (1 4) (5 4))\n (wire 2 (0 6) (1 6) (1 5) (2 5) (2 8) (1 8) (5 8))\n (wire 3 (0 9) (1 9) (1 10) (5 10))\n (track 2 2)\n (wire 4 (0 3) (3 3) (3 2) (5 2))\n (loose 5)\n)\n") ≡ sound-text

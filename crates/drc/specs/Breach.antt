@@ -54,7 +54,7 @@ pub data WireBreach (job : Job) (t : ℕ) (earlier : List ℕ) (ws : List Wire) 
   -- it shares a row with a wire above it, on whichever tracks the two are drawn
   shared-row : {p q : Placement} {v : Wire} {i j : ℕ} (row : ℕ) → Draws job i w p → List·Memᴰ v ws → Draws job j v q →
       p .top ≤ row → row ≤ bottom p → q .top ≤ row → row ≤ bottom q → WireBreach job t earlier ws ns w
-  -- its top row does not rise above that of every wire above it
+  -- its top row is not below that of some wire above it
   wrong-order : {p q : Placement} {v : Wire} {i j : ℕ} → Draws job i w p → List·Memᴰ v ws → Draws job j v q →
       p .top ≤ q .top → WireBreach job t earlier ws ns w
   -- its net has a line above it
@@ -71,17 +71,20 @@ pub data LooseBreach (job : Job) (wired ns : List ℕ) (k : ℕ) : Type 0 where
   other-net : (List·Memᴰ k (map (λ n. n .number) (job .nets)) → ⊥) → LooseBreach job wired ns k
   -- the net has a line above it
   loose-again : List·Memᴰ k (wired ++ ns) → LooseBreach job wired ns k
-  -- the number does not rise above that of every loose line above it
+  -- the number is not above that of some loose line above it
   loose-order : {j : ℕ} → List·Memᴰ j ns → k ≤ j → LooseBreach job wired ns k
 
 -- ---- any line
 
 -- line x of the form, which can stand below a and has the lines ls below it, breaks a rule
 pub data LineBreach (job : Job) : Above → Line → List (Option Line) → Type 0 where
+  -- a false sum: at its track line
   false-sum : {t u s : ℕ} {earlier ns : List ℕ} {ws : List Wire} {ls : List (Option Line)} →
       FalseSum job (earlier ++ wireNumbers ws) u s ls → LineBreach job (inLayout t earlier ws ns) (track u s) ls
+  -- a rule of wires: at the wire
   wire-rule : {t : ℕ} {earlier ns : List ℕ} {ws : List Wire} {w : Wire} {ls : List (Option Line)} →
       WireBreach job t earlier ws ns w → LineBreach job (inLayout t earlier ws ns) (wire w) ls
+  -- a rule of loose lines: at the loose line
   loose-rule : {t k : ℕ} {earlier ns : List ℕ} {ws : List Wire} {ls : List (Option Line)} →
       LooseBreach job (earlier ++ wireNumbers ws) ns k → LineBreach job (inLayout t earlier ws ns) (loose k) ls
   -- a net without a line: at the closing line
@@ -96,11 +99,11 @@ pub data BreachFrom (job : Job) : ℕ → Above → List (Option Line) → ℕ �
   -- the judging goes on past a line of the form that can stand there, broken or not
   further-down : {n l : ℕ} {a : Above} {x : Line} {ls : List (Option Line)} →
       CanStand job a x → BreachFrom job (suc n) (withLine a x) ls l → BreachFrom job n a (some x ∷ ls) l
-  -- it closes at a line that cannot stand there
+  -- a line of the form that cannot stand there is broken, and the judging closes
   out-of-place : {n : ℕ} {a : Above} {x : Line} {ls : List (Option Line)} → (CanStand job a x → ⊥) → BreachFrom job n a (some x ∷ ls) n
-  -- at a line not of the form
+  -- a line not of the form is broken, and the judging closes
   ill-formed : {n : ℕ} {a : Above} {ls : List (Option Line)} → BreachFrom job n a (none ∷ ls) n
-  -- and where the text stops early: the line after the last
+  -- where the text stops early, the line after the last is broken
   stops-early : {n : ℕ} {a : Above} → (a ≡ behindLayout → ⊥) → BreachFrom job n a [] n
 
 -- line l of the text is broken

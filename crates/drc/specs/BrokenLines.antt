@@ -9,13 +9,13 @@ use Rattle.layout.specs.Tree.{Line}
 use Rattle.drc.specs.Standing.{linesRead, Above, beforeLayout, inLayout, behindLayout, withLine}
 use Rattle.drc.specs.Judge.{isInPlace, keepsRules}
 
--- at the end of the text, where n is the line after the last
+-- at the end of the text, where n is the line after the last: n is broken if the text stops early
 unfoldable pub brokenEnd : ℕ → Above → List ℕ
 brokenEnd n beforeLayout = n ∷ []
 brokenEnd n (inLayout t earlier ws ns) = n ∷ []
 brokenEnd n behindLayout = []
 
--- of the lines from line n on, which have a above them
+-- the broken ones of the lines from line n on, which have a above them
 unfoldable pub brokenFrom : Job → ℕ → Above → List (Option Line) → List ℕ
 brokenFrom job n a [] = brokenEnd n a
 brokenFrom job n a (none ∷ ls) = n ∷ []

@@ -15,7 +15,7 @@ use Rattle.layout.specs.Tree.{Wire}
 use Rattle.layout.specs.Drawing.{samePoint, pointsOn}
 use Rattle.layout.specs.Drawn.{placementOf, netNumbered}
 
--- the same points
+-- the two lists have the same points
 unfoldable pub samePoints : List Point → List Point → Bool
 samePoints [] [] = true
 samePoints [] (q ∷ qs) = false
@@ -32,7 +32,7 @@ drawnOf board t ps n =
     let p = placementOf t n ps in
     cond (isOnBoard board p && samePoints (pointsOn board t p) ps) (some p) none
 
--- the same where a number has a net
+-- the placement of a net that the points draw on track t, at any length; none where there is no net
 unfoldable pub drawnFrom : Board → ℕ → List Point → Option Net → Option Placement
 drawnFrom board t ps none = none
 drawnFrom board t ps (some n) = drawnOf board t ps n
@@ -41,7 +41,7 @@ drawnFrom board t ps (some n) = drawnOf board t ps n
 unfoldable pub drawnBy : Job → ℕ → Wire → Option Placement
 drawnBy job t w = drawnFrom (job .board) t (w .points) (netNumbered job (w .number))
 
--- the track in whose via column the second point stands
+-- the track in whose via column the second point stands; 0 where there is no second point
 unfoldable pub trackDrawn : List Point → ℕ
 trackDrawn [] = 0
 trackDrawn (p ∷ []) = 0

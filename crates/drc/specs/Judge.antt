@@ -15,7 +15,7 @@ use Rattle.drc.specs.Covers.{drawnBy, coversOf}
 
 -- ---- which line can stand there
 
--- no loose line stands above
+-- no loose line stands above: there are no numbers of such
 unfoldable pub noneLoose : List ℕ → Bool
 noneLoose [] = true
 noneLoose (k ∷ ks) = false
@@ -36,7 +36,7 @@ isInTurn job t wiresGoOn (wire w) = wiresGoOn && leb 1 t && leb t (job .board .t
 isInTurn job t wiresGoOn (loose k) = endsTrack job t (loose k)
 isInTurn job t wiresGoOn closes = endsTrack job t closes
 
--- the first line of a layout
+-- the line is `(layout`
 unfoldable pub isOpening : Line → Bool
 isOpening opens = true
 isOpening (track u s) = false
@@ -44,7 +44,7 @@ isOpening (wire w) = false
 isOpening (loose k) = false
 isOpening closes = false
 
--- the line can stand there
+-- the line can stand below a
 unfoldable pub isInPlace : Job → Above → Line → Bool
 isInPlace job beforeLayout x = isOpening x
 isInPlace job (inLayout t earlier ws ns) x = isInTurn job t (noneLoose ns) x
@@ -74,7 +74,7 @@ unfoldable pub isSoundPlace : Job → ℕ → List ℕ → List ℕ → Placemen
 isSoundPlace job t earlier lined p =
     isLong (job .board) p && isShort (job .board) p && isClear job t p && not (isOn lined (p .net)) && isReady job earlier (p .net)
 
--- a wire that draws p may stand below the wires ws of track t
+-- a wire that draws p may stand below the wires ws of track t; one that draws none may not
 unfoldable pub isSoundWire : Job → ℕ → List ℕ → List Wire → Option Placement → Bool
 isSoundWire job t earlier ws none = false
 isSoundWire job t earlier ws (some p) =
@@ -84,7 +84,7 @@ isSoundWire job t earlier ws (some p) =
 unfoldable pub isUnlined : Job → List ℕ → ℕ → Bool
 isUnlined job lined k = anyOf (eqb k) (map (λ n. n .number) (job .nets)) && not (anyOf (eqb k) lined)
 
--- a loose line of number k may stand below loose lines with the numbers ns
+-- a loose line of number k may stand below loose lines with the numbers ns, where `lined` has the numbers of all lines above
 unfoldable pub isSoundLoose : Job → List ℕ → List ℕ → ℕ → Bool
 isSoundLoose job lined ns k = isUnlined job lined k && allOf (λ j. ltb j k) ns
 
@@ -105,13 +105,13 @@ pub data Verdict : Type 0 where
   sound-text : Verdict
   broken-at : (line : ℕ) → Verdict
 
--- at the end of the text, where n is the line after the last
+-- the verdict at the end of the text, where n is the line after the last: broken there if the text stops early
 unfoldable pub atTextEnd : ℕ → Above → Verdict
 atTextEnd n beforeLayout = broken-at n
 atTextEnd n (inLayout t earlier ws ns) = broken-at n
 atTextEnd n behindLayout = sound-text
 
--- the lines from line n on, which have a above them: the first that is broken
+-- the verdict on the lines from line n on, which have a above them: the first that is broken
 unfoldable pub judgeFrom : Job → ℕ → Above → List (Option Line) → Verdict
 judgeFrom job n a [] = atTextEnd n a
 judgeFrom job n a (none ∷ ls) = broken-at n

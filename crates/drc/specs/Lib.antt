@@ -5,3 +5,4 @@ pub mod Covers
 pub mod Judge
 pub mod Pass
 pub mod BrokenLines
+pub mod LongNet

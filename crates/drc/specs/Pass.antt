@@ -17,30 +17,35 @@ use Rattle.drc.specs.Judge.{isInTurn, isOpening, isSoundPlace, isUnlined
 
 -- what is kept of the lines above, where `(layout` stands above and `)` does not
 pub record Summary : Type 0 where
-  -- the last track line: its track (0 before the first), its line, the sum that it prints, and the sum of its wires so far
+  -- the track of the last track line, 0 before the first
   pub track : ℕ
+  -- the line that it is
   pub line : ℕ
+  -- the sum that it prints
   pub printed : ℕ
+  -- the sum of its wires so far
   pub sum : ℕ
-  -- the numbers of the wires on earlier tracks, and of all wire and loose lines
+  -- the numbers of the wires on earlier tracks
   pub earlier : List ℕ
+  -- the numbers of all wire and loose lines
   pub lined : List ℕ
-  -- the lowest row that a wire of the track covers, and the number of the last loose line; 0 where there is none
+  -- the lowest row that a wire of the track covers, 0 where there is none
   pub lowest : ℕ
+  -- the number of the last loose line, 0 where there is none
   pub last : ℕ
   -- the line of the first broken wire of the track: it is the verdict, unless the sum is false
   pub fault : Option ℕ
 
--- behind `(layout`
+-- what is kept right behind `(layout`
 abbrev pub emptySummary : Summary
 emptySummary = record { track = 0; line = 0; printed = 0; sum = 0; earlier = []; lined = []; lowest = 0; last = 0; fault = none }
 
--- behind line n, a line of track u that prints the sum s
+-- what is kept behind line n, a line of track u that prints the sum s
 abbrev pub addTrack : ℕ → ℕ → ℕ → Summary → Summary
 addTrack n u s m =
     record { track = u; line = n; printed = s; sum = 0; earlier = m .lined; lined = m .lined; lowest = 0; last = m .last; fault = none }
 
--- a wire that draws p may stand there
+-- a wire that draws p may stand below the lines kept; one that draws none may not
 unfoldable pub isNextWire : Job → Summary → Option Placement → Bool
 isNextWire job m none = false
 isNextWire job m (some p) = isSoundPlace job (m .track) (m .earlier) (m .lined) p && ltb (m .lowest) (p .top)
@@ -55,7 +60,7 @@ unfoldable pub faultAfter : Option ℕ → ℕ → Bool → Option ℕ
 faultAfter (some l) n passed = some l
 faultAfter none n passed = cond passed none (some n)
 
--- behind line n, a wire that draws p: broken or not, it counts by its number
+-- what is kept behind line n, a wire that draws p: broken or not, it counts by its number
 abbrev pub addWire : Job → ℕ → Wire → Option Placement → Summary → Summary
 addWire job n w p m =
     record {
@@ -70,7 +75,7 @@ addWire job n w p m =
       fault = faultAfter (m .fault) n (isNextWire job m p);
     }
 
--- behind a loose line of number k
+-- what is kept behind a loose line of number k
 abbrev pub addLoose : ℕ → Summary → Summary
 addLoose k m =
     record {
@@ -101,20 +106,20 @@ unfoldable pub closedAt : Option ℕ → ℕ → Verdict
 closedAt none n = broken-at n
 closedAt (some l) n = broken-at l
 
--- a broken wire above is the verdict
+-- a broken wire above is the verdict; x where there is none
 unfoldable pub unlessFault : Option ℕ → PassStep → PassStep
 unlessFault none x = x
 unlessFault (some l) x = decides (broken-at l)
 
--- the wires of a track end: its sum is judged, at its track line, then its wires
+-- where the wires of a track end, its sum is judged, at its track line, then its wires; x where nothing is broken
 unfoldable pub judgedTrack : Summary → PassStep → PassStep
 judgedTrack m x = cond (eqb (m .sum) (m .printed)) (unlessFault (m .fault) x) (decides (broken-at (m .line)))
 
--- line n passes its test, or is broken
+-- x where line n passes its test; otherwise line n is broken
 unfoldable pub orBroken : ℕ → Bool → PassStep → PassStep
 orBroken n passed x = cond passed x (decides (broken-at n))
 
--- line n, which can stand behind `(layout` and the lines above
+-- the step at line n, which can stand behind `(layout` and the lines above
 unfoldable pub passInTurn : Job → ℕ → Summary → Line → PassStep
 passInTurn job n m opens = passes-on (running m)
 passInTurn job n m (track u s) = judgedTrack m (passes-on (running (addTrack n u s m)))
@@ -122,13 +127,13 @@ passInTurn job n m (wire w) = passes-on (running (addWire job n w (drawnBy job (
 passInTurn job n m (loose k) = judgedTrack m (orBroken n (isUnlined job (m .lined) k && ltb (m .last) k) (passes-on (running (addLoose k m))))
 passInTurn job n m closes = judgedTrack m (orBroken n (allOf (isOn (m .lined)) (job .nets)) (passes-on finished))
 
--- line n of the form
+-- the step at line n, which is of the form
 unfoldable pub passLine : Job → ℕ → PassState → Line → PassStep
 passLine job n unbegun x = orBroken n (isOpening x) (passes-on (running emptySummary))
 passLine job n (running m) x = cond (isInTurn job (m .track) (eqb (m .last) 0) x) (passInTurn job n m x) (decides (closedAt (m .fault) n))
 passLine job n finished x = decides (broken-at n)
 
--- line n not of the form
+-- the verdict at line n, which is not of the form
 unfoldable pub passIllFormed : ℕ → PassState → Verdict
 passIllFormed n unbegun = broken-at n
 passIllFormed n (running m) = closedAt (m .fault) n
@@ -139,7 +144,7 @@ unfoldable pub passStep : Job → ℕ → PassState → Option Line → PassStep
 passStep job n st none = decides (passIllFormed n st)
 passStep job n st (some x) = passLine job n st x
 
--- the end of the text, where n is the line after the last
+-- the verdict at the end of the text, where n is the line after the last
 unfoldable pub passEnd : ℕ → PassState → Verdict
 passEnd n unbegun = broken-at n
 passEnd n (running m) = closedAt (m .fault) n
@@ -150,7 +155,7 @@ unfoldable pub afterStep : PassStep → (PassState → Verdict) → Verdict
 afterStep (passes-on st) f = f st
 afterStep (decides v) f = v
 
--- the pass over the lines from line n on
+-- the verdict of the pass over the lines from line n on
 unfoldable pub passFrom : Job → ℕ → PassState → List (Option Line) → Verdict
 passFrom job n st [] = passEnd n st
 passFrom job n st (x ∷ ls) = afterStep (passStep job n st x) (λ next. passFrom job (suc n) next ls)

@@ -21,12 +21,11 @@ pub reply-given : (x : Read) (before : List ℕ) (a : RouteAnswer) (after : List
     (OfWritten (λ j text. Sound j text) x (routeAnswer x (length before)) after ×
     OfWritten (λ j text. UnbeatenText j text) x (routeAnswer x (length before)) after)))
 reply-given x before a after p n l b e f g =
-    let q = p .0 in
-    (
+    let q = p .0 in (
       record {
         number-is = e ∙ ap (λ (y : RouteAnswer). routeValues y .number) q;
         line-is = f ∙ ap (λ (y : RouteAnswer). routeValues y .line) q;
         bytes-is = g ∙ ap (λ (y : RouteAnswer). routeValues y .bytes) q;
       },
-      rw q at (p .1 .1)
+      rw q at (p .1 .1),
     )

@@ -24,7 +24,7 @@ unfoldable pub planSum : Read → ℕ
 planSum (accepted job) = sumOfTracks (planOf job)
 planSum (refused o) = 0
 
--- an answer of route in document 01's numbers
+-- an answer of route has this number, line and bytes in document 01's numbers
 pub record RepliesWith (a : RouteAnswer) (number line bytes : ℕ) : Type 0 where
   pub number-is : number ≡ routeValues a .number
   pub line-is : line ≡ routeValues a .line

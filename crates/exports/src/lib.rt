@@ -12,7 +12,12 @@ ghost use Rattle.exports.specs.Exported.{addedUp, refusalOf, planSum, Re
 // Routes a job into a buffer, and answers in document 01's numbers: the number of the refusal, 0 where the layout is written; through
 // `line` the line that it names, 0 where it names none; through `bytes` the length of the layout, written or needed.
 #[no_mangle]
-pub extern "C" fn hankuribo_route(job: &[u8], out: &mut [u8], line: &mut usize, bytes: &mut usize) -> usize
+pub extern "C" fn hankuribo_route(
+    job: &[u8],
+    out: &mut [u8],
+    line: &mut usize,
+    bytes: &mut usize,
+) -> usize
     ensures { λ r. ⌜ RepliesWith (routeAnswer (readJob (now (job .entry))) (length (now (out .entry)))) r (now (line .exit)) (now (bytes .exit)) ⌝ }
     ensures { λ _. ⌜ now (out .exit) ≡ bufferAfter (readJob (now (job .entry))) (now (out .entry)) ⌝ }
     ensures { λ _. ⌜ OfWritten (λ j text. ShortestText j (planOf j) text) (readJob (now (job .entry))) (routeAnswer (readJob (now (job .entry))) (length (now (out .entry)))) (now (out .exit)) ⌝ }

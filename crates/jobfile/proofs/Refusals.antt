@@ -17,7 +17,8 @@ use Rattle.jobfile.specs.Answers.{numberOf, lineOf}
 use Rattle.jobfile.specs.Faults.{formsOf, jobFrom, jobIn, nonBlank, Ordered, LineFault, Fault, too-long, on-line, ends-early, FirstFault}
 use Rattle.jobfile.proofs.Tests.{read-cases}
 use Rattle.jobfile.proofs.Outcomes.{same-outcome}
-use Rattle.jobfile.proofs.LineFaults.{LinesReach, not-both, fault-at, LineJudged, step-judged}
+use Rattle.jobfile.proofs.LinesAbove.{LinesReach, not-both}
+use Rattle.jobfile.proofs.LineFaults.{fault-at, LineJudged, step-judged}
 
 -- ---- faults below some lines
 

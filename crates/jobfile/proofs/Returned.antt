@@ -10,7 +10,7 @@ use Rattle.jobfile.specs.declared.Answer.{Answer}
 use Rattle.jobfile.specs.declared.Outcome.{Outcome}
 use Rattle.jobfile.specs.declared.Outcome.the-variants as Is
 use Rattle.jobfile.specs.Read.{Read, accepted, refused, readJob}
-use Rattle.jobfile.specs.Answers.{numberOf, noJob, answerOf}
+use Rattle.jobfile.specs.Answers.{numberOf, answerOf, answer, noJob}
 use Rattle.jobfile.specs.Faults.{FirstFault}
 use Rattle.jobfile.specs.RightAnswer.{RightAnswer}
 use Rattle.jobfile.proofs.Accepts.{read-accepted}
@@ -18,14 +18,11 @@ use Rattle.board.proofs.StoredJobs.{job-back, stored-accepted}
 use Rattle.jobfile.proofs.Refusals.{read-refused, read-faultless, read-held, fault-from}
 
 module _ (text : List ℕ) where
-  abbrev answer : Answer
-  answer = answerOf (readJob text)
-
   -- no refusal has the outcome of an accepted text
   refused-number : (o : Outcome) → readJob text ≡ refused o → o ≡ Is.Accepted → ⊥
   refused-number o e q = omega (arith, ap numberOf q, fault-from text o (read-refused text o e .fault))
 
-  pub returned-job : answer .outcome ≡ Is.Accepted → readJob text ≡ accepted (jobOf (answer .job))
+  pub returned-job : answer text .outcome ≡ Is.Accepted → readJob text ≡ accepted (jobOf (answer text .job))
   unfolding answerOf
   returned-job = by (readJob text) refl
     where
@@ -33,10 +30,10 @@ module _ (text : List ℕ) where
       by (accepted job) e q = ap accepted (sym (job-back job))
       by (refused o) e q = absurd (refused-number o e q)
 
-  pub returned-accepted : answer .outcome ≡ Is.Accepted → AcceptedJob (jobOf (answer .job))
-  returned-accepted q = read-accepted text (jobOf (answer .job)) (returned-job q)
+  pub returned-accepted : answer text .outcome ≡ Is.Accepted → AcceptedJob (jobOf (answer text .job))
+  returned-accepted q = read-accepted text (jobOf (answer text .job)) (returned-job q)
 
-  pub returned-refused : (answer .outcome ≡ Is.Accepted → ⊥) → readJob text ≡ refused (answer .outcome)
+  pub returned-refused : (answer text .outcome ≡ Is.Accepted → ⊥) → readJob text ≡ refused (answer text .outcome)
   unfolding answerOf
   returned-refused = by (readJob text)
     where
@@ -44,8 +41,17 @@ module _ (text : List ℕ) where
       by (accepted job) q = absurd (q refl)
       by (refused o) q = refl
 
-  pub returned-first : (answer .outcome ≡ Is.Accepted → ⊥) → FirstFault text (answer .outcome)
-  returned-first q = read-refused text (answer .outcome) (returned-refused q)
+  -- a refusal hands out no job
+  pub returned-empty : (answer text .outcome ≡ Is.Accepted → ⊥) → answer text .job ≡ storedOf noJob
+  unfolding answerOf
+  returned-empty = by (readJob text)
+    where
+      by : (y : Read) → (answerOf y .outcome ≡ Is.Accepted → ⊥) → answerOf y .job ≡ storedOf noJob
+      by (accepted job) q = absurd (q refl)
+      by (refused o) q = refl
+
+  pub returned-first : (answer text .outcome ≡ Is.Accepted → ⊥) → FirstFault text (answer text .outcome)
+  returned-first q = read-refused text (answer text .outcome) (returned-refused q)
 
 -- what a caller of read holds: its answer, and the number of the outcome
 module _ (text : List ℕ) (a : Answer) (n : ℕ) (e : a ≡ answerOf (readJob text)) (f : n ≡ numberOf (a .outcome)) where

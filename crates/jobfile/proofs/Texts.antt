@@ -1,29 +1,18 @@
 -- What small texts are read as, those of the readings of document 01 among them, and its worked board. Assumes nothing.
 use Prim.Native.Nat.{ℕ, zero, suc, _+_, _≤_}
-use Prim.Native.String as S
 use mathlib.Core.Path.{_≡_, refl, ap, _∙_}
-use mathlib.Core.List.{List, [], _∷_}
+use mathlib.Core.List.{[], _∷_}
 use native.Mathlib.Omega.{arith}
 use lib.ListN.{replicate, length-replicate}
-use Rattle.lists.specs.Lists.{allOf}
 use Rattle.board.specs.Job.{Job}
 use Rattle.board.specs.WorkedBoard.{workedJob}
-use Rattle.board.specs.Length.{width, upper, lower, span, plainLength, shortest, needed}
-use Rattle.text.specs.Bytes.{bytes, lines, same, joined, pieces, nonEmpty}
-use Rattle.text.specs.Digits.{valueFrom, number}
-use Rattle.keywords.specs.Keywords.{findFrom, findWord}
-use Rattle.lines.specs.Tokens.{spaced, lineWords}
+use Rattle.text.specs.Bytes.{bytes, lines}
 use Rattle.jobfile.specs.declared.Outcome.the-variants.{NotOfForm, OutOfRange, TooMany, NumberNotAbove, PinUsed, SameRow, NoLength, TooFewRows}
-use Rattle.jobfile.specs.Forms.{noWord, ifLast, consNumber, arguments, formFrom, formAfter, formOpened, formOf, readForm}
-use Rattle.jobfile.specs.Read.{start, stop, unless, atStart, atOpened, atSized, atFilled, within, netOf, blockOf, boardOf, emptyBoard, netInRange, blockInRange, lastNumber, pinsFree, addNet, addBlock, step, Read, accepted, refused, ended, follow, readFrom, readJob}
+use Rattle.jobfile.specs.Read.{start, stop, netOf, blockOf, boardOf, emptyBoard, addNet, addBlock, accepted, refused, readFrom, readJob}
 use Rattle.board.specs.Accepted.{AcceptedJob}
 use Rattle.jobfile.proofs.Accepts.{read-accepted}
 use Rattle.jobfile.proofs.Tests.{read-cases}
-
--- what a text is read as
-unfoldable pub readAs : S.String → Read
-unfolding readJob readFrom follow ended step addBlock addNet pinsFree lastNumber blockInRange netInRange within atFilled atSized atOpened atStart unless readForm formOf formOpened formAfter formFrom arguments consNumber ifLast noWord lineWords spaced findWord findFrom number valueFrom nonEmpty pieces joined same needed shortest plainLength span lower upper width allOf
-readAs s = readJob (bytes s)
+use Rattle.jobfile.specs.TextsRead.{readAs, workedText}
 
 -- a text that ends early is refused at the line after its last; any faulty line above counts before that
 ends-early :
@@ -116,11 +105,7 @@ lengths :
 unfolding readAs
 lengths = (refl, refl, refl, refl, refl, refl)
 
--- document 01's worked board
-abbrev pub workedText : S.String
-workedText =
-    "(board\n (rows 10)\n (tracks 2)\n (net 1 2 4 7 7)\n (net 2 6 8 11 12)\n (net 3 9 10 6 8)\n (net 4 3 2 6 6)\n (net 5 5 6 6 6)\n (block 2 6 6)\n)\n"
-
+-- document 01's worked board is read as the worked job
 pub worked-board : readAs workedText ≡ accepted workedJob
 unfolding readAs
 worked-board = refl

@@ -1,12 +1,13 @@
--- Document 01, "Operations", read: the number and the line of each outcome, and what read returns. Only this definition gives the
--- document's numbers.
+-- Document 01, "Operations", read: the document's number and the line of each outcome of read, and what read returns. The numbers above 9
+-- are not read's: they stand in the definitions of route's and check's own answers.
 use Prim.Native.Nat.{ℕ}
+use mathlib.Core.List.{List}
 use Rattle.board.specs.Job.{Job}
 use Rattle.board.specs.Stored.{storedOf}
 use Rattle.jobfile.specs.declared.Answer.{Answer}
 use Rattle.jobfile.specs.declared.Outcome.{Outcome}
 use Rattle.jobfile.specs.declared.Outcome.the-variants.{Accepted, TooLong, NotOfForm, OutOfRange, TooMany, NumberNotAbove, PinUsed, SameRow, NoLength, TooFewRows}
-use Rattle.jobfile.specs.Read.{boardOf, emptyBoard, Read, accepted, refused}
+use Rattle.jobfile.specs.Read.{boardOf, emptyBoard, Read, accepted, refused, readJob}
 
 -- what an outcome says in the document's numbers: the number of the refusal, 0 where nothing is refused; the line that it names, 0 where it
 -- names none
@@ -43,3 +44,7 @@ noJob = emptyBoard (boardOf 0 0)
 unfoldable pub answerOf : Read → Answer
 answerOf (accepted job) = record { outcome = Accepted; job = storedOf job }
 answerOf (refused o) = record { outcome = o; job = storedOf noJob }
+
+-- what read returns of a text
+abbrev pub answer : List ℕ → Answer
+answer text = answerOf (readJob text)

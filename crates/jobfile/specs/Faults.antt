@@ -24,7 +24,7 @@ use Rattle.jobfile.specs.Answers.{numberOf, lineOf, noJob}
 abbrev pub formsOf : List ℕ → List Form
 formsOf text = map readForm (lines text)
 
--- the job that lines hold, wherever they stand: H, K, the nets and the blocks in their order
+-- the job with one form more, wherever its line stands: H, K, a net or a block
 unfoldable pub withForm : Job → Form → Job
 withForm job Is.Blank = job
 withForm job Is.Board = job
@@ -44,7 +44,7 @@ jobFrom job (f ∷ fs) = jobFrom (withForm job f) fs
 abbrev pub jobIn : List Form → Job
 jobIn fs = jobFrom noJob fs
 
--- lines without the blank ones, which are skipped
+-- the form is that of a blank line
 abbrev pub isBlank : Form → Bool
 isBlank Is.Blank = true
 isBlank Is.Board = false
@@ -60,7 +60,7 @@ unfoldable pub nonBlank : List Form → List Form
 nonBlank [] = []
 nonBlank (f ∷ fs) = let rest = nonBlank fs in cond (isBlank f) rest (f ∷ rest)
 
--- a net or a block
+-- the form is a net or a block
 pub data Item : Form → Type 0 where
   net : {i l r lo hi : ℕ} → Item (Is.Net i l r lo hi)
   block : {t a b : ℕ} → Item (Is.Block t a b)
@@ -96,7 +96,7 @@ pub data NetFault (job : Job) (n : Net) (k : ℕ) : Outcome → Type 0 where
   no-length : ((s : Shape) → Allowed (job .board) n s → ⊥) → NetFault job n k (NoLength k)
   too-few-rows : job .board .rows < needed (job .board) n → NetFault job n k (TooFewRows k)
 
--- the faults of block b on line k
+-- the faults of block b on line k, where `job` is what the lines above hold
 pub data BlockFault (job : Job) (b : Block) (k : ℕ) : Outcome → Type 0 where
   block-range : (BlockInRange (job .board) b → ⊥) → BlockFault job b k (OutOfRange k)
   block-count : 256 ≤ length (job .blocks) → BlockFault job b k (TooMany k)

@@ -17,7 +17,7 @@ unfoldable pub noWord : List (List ℕ) → Bool
 noWord [] = true
 noWord (w ∷ ws) = false
 
--- x where no word is left
+-- x where no word is left; otherwise the line is not of the form
 unfoldable pub ifLast : List (List ℕ) → Form → Form
 ifLast ws x = cond (noWord ws) x Other
 

@@ -30,12 +30,11 @@ pub data Next : Type 0 where
   go : State → Next
   stop : Outcome → Next
 
--- refused where a test fails
+-- x where the test passes, the refusal o where it fails
 unfoldable pub unless : Bool → Outcome → Next → Next
 unless passed o x = cond passed x (stop o)
 
--- `(board` stands first, `(rows H)` behind it, `(tracks K)` behind that, then nets, blocks and the closing bracket; anywhere else
--- line k is not of the form
+-- x where nothing stands above, as `(board` asks; anywhere else line k is not of the form
 unfoldable pub atStart : ℕ → State → Next → Next
 atStart k start x = x
 atStart k opened x = stop (NotOfForm k)
@@ -43,7 +42,7 @@ atStart k (sized h) x = stop (NotOfForm k)
 atStart k (filled job) x = stop (NotOfForm k)
 atStart k (closed job) x = stop (NotOfForm k)
 
--- `(rows H)` stands right behind `(board`
+-- x right behind `(board`, as `(rows H)` asks; anywhere else line k is not of the form
 unfoldable pub atOpened : ℕ → State → Next → Next
 atOpened k start x = stop (NotOfForm k)
 atOpened k opened x = x
@@ -51,7 +50,7 @@ atOpened k (sized h) x = stop (NotOfForm k)
 atOpened k (filled job) x = stop (NotOfForm k)
 atOpened k (closed job) x = stop (NotOfForm k)
 
--- `(tracks K)` stands right behind `(rows H)`, whose H it is told
+-- what f makes of H right behind `(rows H)`, as `(tracks K)` asks; anywhere else line k is not of the form
 unfoldable pub atSized : ℕ → State → (ℕ → Next) → Next
 atSized k start f = stop (NotOfForm k)
 atSized k opened f = stop (NotOfForm k)
@@ -59,7 +58,8 @@ atSized k (sized h) f = f h
 atSized k (filled job) f = stop (NotOfForm k)
 atSized k (closed job) f = stop (NotOfForm k)
 
--- nets, blocks and the closing bracket stand behind `(tracks K)`; they are told the job so far
+-- what f makes of the job so far, behind `(tracks K)` and before the closing bracket, as nets, blocks and that bracket ask; anywhere
+-- else line k is not of the form
 unfoldable pub atFilled : ℕ → State → (Job → Next) → Next
 atFilled k start f = stop (NotOfForm k)
 atFilled k opened f = stop (NotOfForm k)
@@ -67,19 +67,19 @@ atFilled k (sized h) f = stop (NotOfForm k)
 atFilled k (filled job) f = f job
 atFilled k (closed job) f = stop (NotOfForm k)
 
--- from lo to hi
+-- x is from lo to hi
 unfoldable pub within : ℕ → ℕ → ℕ → Bool
 within lo hi x = leb lo x && leb x hi
 
--- the records of a net and of a block, and the job with one more of them
+-- the record of a net, by its number, L, R, min and max
 abbrev pub netOf : ℕ → ℕ → ℕ → ℕ → ℕ → Net
 netOf i l r lo hi = record { number = i; left = record { 0 = l }; right = record { 0 = r }; min = lo; max = hi }
 
--- the record of a block
+-- the record of a block, by its track, A and B
 abbrev pub blockOf : ℕ → ℕ → ℕ → Block
 blockOf t a b = record { track = record { 0 = t }; first = record { 0 = a }; last = record { 0 = b } }
 
--- the record of a board
+-- the record of a board, by H and K
 abbrev pub boardOf : ℕ → ℕ → Board
 boardOf h k = record { rows = h; tracks = k }
 
@@ -95,7 +95,7 @@ withNet job n = record { board = job .board; nets = job .nets ++ (n ∷ []); blo
 abbrev pub withBlock : Job → Block → Job
 withBlock job b = record { board = job .board; nets = job .nets; blocks = job .blocks ++ (b ∷ []) }
 
--- the numbers of a net, and of a block, are in their ranges
+-- the numbers of a net are in their ranges
 unfoldable pub netInRange : Board → Net → Bool
 netInRange board n =
     within 1 9999 (n .number) &&
@@ -151,7 +151,7 @@ step k s (Is.Block t a b) = atFilled k s (addBlock k (blockOf t a b))
 step k s Is.Close = atFilled k s (λ job. go (closed job))
 step k s Is.Other = stop (NotOfForm k)
 
--- what a text is read as
+-- what a text is read as: an accepted job, or a refusal
 pub data Read : Type 0 where
   accepted : Job → Read
   refused : Outcome → Read

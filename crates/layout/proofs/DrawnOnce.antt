@@ -11,13 +11,13 @@ use Rattle.lists.proofs.Cases.{by-test, and-split}
 use Rattle.board.specs.declared.Net.{Net}
 use Rattle.board.specs.declared.Shape.{Shape}
 use Rattle.board.specs.declared.Shape.the-variants.{Plain, Stretched}
-use Rattle.board.specs.Length.{width, upper, lower, span}
+use Rattle.board.specs.Length.{width, upper, span}
 use Rattle.board.specs.Job.{Job}
 use Rattle.board.specs.Placement.{Placement, bottom, Legal}
 use Rattle.board.proofs.ShortestShape.{span-add}
 use Rattle.layout.specs.Tree.{Point, Wire}
 use Rattle.layout.specs.Drawing.{viaColumn, wireColumn, at, samePoint, distinctFrom, nearRow, farRow, corners, pointsOn, wireOf}
-use Rattle.layout.specs.Drawn.{firstIn, lastIn, placementFrom, placementOf}
+use Rattle.layout.specs.Drawn.{Fixed, firstIn, lastIn, placementFrom, placementOf}
 
 -- ---- points that are left out change neither the first nor the last row of a column
 
@@ -62,11 +62,6 @@ lastIn-distinct c d p (q ∷ qs) =
     (λ e. rw e (lastIn-distinct c (cond (eqb (p .column) c) (p .row) d) q qs))
 
 -- ---- the placement of a drawing
-
--- the rows of p hold the fixed rows of its net
-pub record Fixed (p : Placement) : Type 0 where
-  pub over-upper : p .top ≤ upper (p .net)
-  pub under-lower : lower (p .net) ≤ bottom p
 
 abbrev placed : Net → Shape → ℕ → Placement
 placed n s r = record { net = n; shape = s; top = r }

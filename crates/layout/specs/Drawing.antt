@@ -10,11 +10,11 @@ use Rattle.board.specs.Length.{width}
 use Rattle.board.specs.Placement.{Placement, bottom}
 use Rattle.layout.specs.Tree.{Point, Wire}
 
--- track t has its via column 2t − 1 and its wire column 2t
+-- the via column of track t, 2t − 1
 unfoldable pub viaColumn : ℕ → ℕ
 viaColumn t = 2 * t - 1
 
--- the wire column of track t
+-- the wire column of track t, 2t
 unfoldable pub wireColumn : ℕ → ℕ
 wireColumn t = 2 * t
 
@@ -22,20 +22,20 @@ wireColumn t = 2 * t
 abbrev pub at : ℕ → ℕ → Point
 at c r = record { column = c; row = r }
 
--- a point equal to another
+-- the two points are equal
 unfoldable pub samePoint : Point → Point → Bool
 samePoint p q = eqb (p .column) (q .column) && eqb (p .row) (q .row)
 
--- a point equal to the one before is left out, where p stands before the first
+-- the points without each that is equal to the one before it, where p stands before the first
 unfoldable pub distinctFrom : Point → List Point → List Point
 distinctFrom p [] = []
 distinctFrom p (q ∷ qs) = let rest = distinctFrom q qs in cond (samePoint p q) rest (q ∷ rest)
 
--- the row of the stretched part next to the left pin, and next to the right pin: r and s with L < R; with L > R they change places
+-- the row of the stretched part next to the left pin: r with L < R, s with L > R
 unfoldable pub nearRow : Placement → ℕ
 nearRow p = cond (ltb (p .net .left .0) (p .net .right .0)) (p .top) (bottom p)
 
--- the row of the stretched part next to the right pin
+-- the row of the stretched part next to the right pin: s with L < R, r with L > R
 unfoldable pub farRow : Placement → ℕ
 farRow p = cond (ltb (p .net .left .0) (p .net .right .0)) (bottom p) (p .top)
 
@@ -55,16 +55,16 @@ pointsOn board t p = let pin = at 0 (p .net .left .0) in pin ∷ distinctFrom pi
 unfoldable pub wireOf : Board → ℕ → Placement → Wire
 wireOf board t p = record { number = p .net .number; points = pointsOn board t p }
 
--- the length of a path of points: its segments add up
+-- how far two columns, or two rows, are apart: |a − b|
 unfoldable pub between : ℕ → ℕ → ℕ
 between a b = (a - b) + (b - a)
 
--- the length of a path behind point p
+-- the length of a path that goes on from point p: its segments add up
 unfoldable pub pathFrom : Point → List Point → ℕ
 pathFrom p [] = 0
 pathFrom p (q ∷ qs) = between (p .column) (q .column) + between (p .row) (q .row) + pathFrom q qs
 
--- the length of a path
+-- the length of a path of points
 unfoldable pub pathLength : List Point → ℕ
 pathLength [] = 0
 pathLength (p ∷ ps) = pathFrom p ps

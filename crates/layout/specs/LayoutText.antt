@@ -24,7 +24,7 @@ unfoldable pub linesText : List Line → List ℕ
 linesText [] = []
 linesText (x ∷ xs) = lineText x ++ 10 ∷ linesText xs
 
--- the lines of wires, of tracks with their wires, of loose nets, then the rest
+-- the lines of wires, then the rest
 unfoldable pub wiresThen : List Wire → List Line → List Line
 wiresThen [] rest = rest
 wiresThen (w ∷ ws) rest = wire w ∷ wiresThen ws rest

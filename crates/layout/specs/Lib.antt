@@ -4,3 +4,4 @@ pub mod LayoutText
 pub mod ReadBack
 pub mod Drawing
 pub mod Drawn
+pub mod WorkedTree

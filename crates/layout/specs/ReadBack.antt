@@ -58,7 +58,7 @@ gathered (x ∷ xs) = add x (gathered xs)
 unfoldable pub roughLayout : List ℕ → Layout
 roughLayout s = let p = gathered (map roughLine (lines s)) in record { tracks = p .tracks; loose = p .loose }
 
--- every number has at most six digits
+-- the number has at most six digits
 abbrev pub isSmall : ℕ → Bool
 isSmall n = ltb n 1000000
 

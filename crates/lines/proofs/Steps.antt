@@ -83,9 +83,9 @@ stepped s p from to n e =
     ]
 
 -- and a step that finds none: no line is left
-pub ended : (s : List ℕ) (p : Place) → End ≡ stepAt s p → (lines (drop (p .at) s) ≡ []) × (length s ≤ p .at)
+pub end-of-lines : (s : List ℕ) (p : Place) → End ≡ stepAt s p → (lines (drop (p .at) s) ≡ []) × (length s ≤ p .at)
 unfolding stepLines
-ended s p e =
+end-of-lines s p e =
     elim (decLt (p .at) (length s)) [
       | yes h ↦
           let k = e ∙ sym (step-line s p (lineEnd s (p .at)) (min (lineEnd s (p .at) + 1) (length s)) h refl refl) in

@@ -29,7 +29,7 @@ rowOf t row [] ps = []
 rowOf t row (n ∷ ns) [] = []
 rowOf t row (n ∷ ns) (p ∷ ps) = standsAt t row n (p .stand) ++ rowOf t row ns ps
 
--- those of the last k rows, by rising row
+-- the placements on track t with the top in the last k rows, by rising row
 unfoldable pub lastRows : Job → JobPlan → ℕ → ℕ → List Placement
 lastRows job plan t zero = []
 lastRows job plan t (suc k) = rowOf t (job .board .rows - k) (job .nets) (plan .nets) ++ lastRows job plan t k
@@ -44,7 +44,7 @@ tracksFrom job plan (suc k) t =
 unfoldable pub tracksOf : Job → JobPlan → List FilledTrack
 tracksOf job plan = tracksFrom job plan (job .board .tracks) 1
 
--- the nets that stand on no track
+-- a net that stands so stands on no track
 abbrev pub isLoose : Stand → Bool
 isLoose Loose = true
 isLoose (Wired track top shape) = false

@@ -15,7 +15,7 @@ use Rattle.planner.specs.declared.Stand.the-variants.{Loose, Wired}
 use Rattle.planner.specs.declared.NetPlan.{NetPlan}
 use Rattle.planner.specs.declared.JobPlan.{JobPlan}
 
--- the wire of the net with number k
+-- the wire of the net with number k, if it has one
 unfoldable pub wireWith : ℕ → List Placement → Option Placement
 wireWith k ps = firstOf (λ p. eqb (p .net .number) k) ps
 
@@ -36,7 +36,7 @@ netPlanOf plan n = record { stand = standFrom 1 plan (n .number) }
 abbrev pub noPlan : NetPlan
 noPlan = record { stand = Loose }
 
--- filled tracks of a job by value
+-- the plan by value of a job whose tracks are filled so
 unfoldable pub storedPlan : Job → List FilledTrack → JobPlan
 storedPlan job plan =
     record {

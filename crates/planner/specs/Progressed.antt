@@ -23,7 +23,7 @@ trackOf (Wired t top shape) = t .0
 abbrev pub placedOn : List FilledTrack → Net → ℕ
 placedOn plan n = trackOf (standFrom 1 plan (n .number))
 
--- filled tracks of a job, with the track of each net beside them
+-- what is planned with some tracks filled: the track and the plan of each net, and the sum of each track
 unfoldable pub progressOf : Job → List FilledTrack → Progress
 progressOf job plan =
     record {
@@ -36,7 +36,7 @@ progressOf job plan =
 unfoldable pub noProgress : Progress
 noProgress = record { placed = replicate 512 0; nets = replicate 512 noPlan; sums = replicate 128 0 }
 
--- tracks 1 to t of the job's plan, and the numbers of the nets on them
+-- tracks 1 to t of the job's plan
 abbrev pub firstTracks : Job → ℕ → List FilledTrack
 firstTracks job t = take t (planOf job)
 

@@ -14,12 +14,12 @@ use Rattle.lines.specs.Places.{stepAt}
 use Rattle.lines.specs.declared.Step.{Step}
 use Rattle.lines.specs.declared.Step.the-variants.{Line, End}
 use Rattle.lines.specs.Stepped.{Stepped}
-use Rattle.lines.proofs.Steps.{stepped, ended}
+use Rattle.lines.proofs.Steps.{stepped, end-of-lines}
 use Rattle.jobfile.specs.declared.Form.{Form}
 use Rattle.jobfile.specs.declared.Form.the-variants as Is
 use Rattle.jobfile.specs.declared.Outcome.the-variants.{Accepted, TooLong, NotOfForm}
 use Rattle.jobfile.specs.Forms.{readForm}
-use Rattle.jobfile.specs.Read.{State, start, Next, go, stop, step, Read, ended as endedAt, follow, readFrom, readJob}
+use Rattle.jobfile.specs.Read.{State, start, Next, go, stop, step, Read, ended, follow, readFrom, readJob}
 use Rattle.jobfile.specs.Answers.{numberOf, noJob, answerOf}
 use Rattle.jobfile.specs.Faults.{isBlank}
 use Rattle.reader.specs.Cursors.{formOn, formStep}
@@ -141,9 +141,9 @@ module _ (s : List ℕ) (stage : ℕ) (job : StoredJob) (p : Cursor) (w : LinesL
       left-refused h = stops led _ t k h ∙ ap answerOf (sym turn)
 
   -- the end of the text
-  pub left-over : At.End ≡ formStep s p → endedAt (p .place .passed + 1) (stateOf stage job) ≡ readFrom 1 start (lines s)
+  pub left-over : At.End ≡ formStep s p → ended (p .place .passed + 1) (stateOf stage job) ≡ readFrom 1 start (lines s)
   unfolding formStep readFrom
-  left-over e = sym (w .rest ∙ (rw (ended s (p .place) (none-left s (stepAt s (p .place)) e) .0, add-one (p .place .passed))))
+  left-over e = sym (w .rest ∙ (rw (end-of-lines s (p .place) (none-left s (stepAt s (p .place)) e) .0, add-one (p .place .passed))))
 
 -- the length is tested first
 
@@ -158,8 +158,8 @@ not-too-long s h = rw (le-leb (length s) 64000 h)
 -- the answer at the end
 
 pub ends-early : (stage : ℕ) (job nothing : StoredJob) (k : ℕ) → stage < 4 → nothing ≡ storedOf noJob →
-    record { outcome = NotOfForm k; job = nothing } ≡ answerOf (endedAt k (stateOf stage job))
-unfolding stateOf endedAt answerOf
+    record { outcome = NotOfForm k; job = nothing } ≡ answerOf (ended k (stateOf stage job))
+unfolding stateOf ended answerOf
 ends-early zero job nothing k h e = rw e
 ends-early (suc zero) job nothing k h e = rw e
 ends-early (suc (suc zero)) job nothing k h e = rw e
@@ -167,8 +167,8 @@ ends-early (suc (suc (suc zero))) job nothing k h e = rw e
 ends-early (suc (suc (suc (suc stage)))) job nothing k h e = absurd (omega arith)
 
 pub ends-well : (stage : ℕ) (job : StoredJob) (k : ℕ) → Held stage job → 4 ≤ stage →
-    record { outcome = Accepted; job = job } ≡ answerOf (endedAt k (stateOf stage job))
-unfolding stateOf endedAt answerOf
+    record { outcome = Accepted; job = job } ≡ answerOf (ended k (stateOf stage job))
+unfolding stateOf ended answerOf
 ends-well zero job k h l = absurd (omega arith)
 ends-well (suc zero) job k h l = absurd (omega arith)
 ends-well (suc (suc zero)) job k h l = absurd (omega arith)

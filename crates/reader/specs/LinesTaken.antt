@@ -13,7 +13,7 @@ use Rattle.jobfile.specs.Answers.{noJob}
 use Rattle.jobrules.specs.Rules.{Filled}
 use Rattle.reader.specs.declared.LinesTaken.{LinesTaken}
 
--- the forms that may stand at a stage
+-- a line of this form may stand at a stage
 unfoldable pub mayStand : ℕ → Form → Bool
 mayStand stage Is.Blank = true
 mayStand stage Is.Board = eqb stage 0
@@ -36,7 +36,8 @@ stateOf (suc (suc (suc (suc stage)))) job = closed (jobOf job)
 abbrev pub onward : ℕ → StoredJob → LinesTaken
 onward stage job = record { outcome = Accepted; stage = stage; job = job }
 
--- and behind any line; nothing where the text is refused
+-- what the code holds behind a line, of what the line leads to: the stage and the job by value of a state; stage 0 and the empty job
+-- beside a refusal
 unfoldable pub linesTakenOf : Next → LinesTaken
 linesTakenOf (go start) = onward 0 (storedOf noJob)
 linesTakenOf (go opened) = onward 1 (storedOf noJob)
@@ -45,7 +46,7 @@ linesTakenOf (go (filled job)) = onward 3 (storedOf job)
 linesTakenOf (go (closed job)) = onward 4 (storedOf job)
 linesTakenOf (stop o) = record { outcome = o; stage = 0; job = storedOf noJob }
 
--- the size in range, as far as it is known at a stage
+-- what is known of the job at a stage: nothing before `(rows H)`, behind it that H is in range, behind `(tracks K)` all that `Filled` says
 abbrev pub FilledAt : ℕ → StoredJob → Type 0
 FilledAt zero job = Unit {0}
 FilledAt (suc zero) job = Unit {0}

@@ -34,16 +34,21 @@ pub enum FormStep {
     End,
 }
 
-// How far the lines above go: nothing yet, behind `(board`, behind `(rows H)`, behind `(tracks K)` among nets and blocks, behind the
-// closing bracket.
+// The stages: how far the lines above go.
+
+// Nothing stands above.
 const START: usize = 0;
 
+// `(board` stands above.
 const OPENED: usize = 1;
 
+// `(rows H)` too.
 const SIZED: usize = 2;
 
+// `(tracks K)` too, and any nets and blocks behind it.
 const FILLED: usize = 3;
 
+// The closing bracket too.
 const CLOSED: usize = 4;
 
 // What the lines above hold: the outcome of the last of them, the stage that they come to, and the job so far.
@@ -82,7 +87,7 @@ impl Cursor {
 }
 
 // A line that is refused: nothing is held any more.
-fn refused(outcome: Outcome) -> LinesTaken
+fn line_refused(outcome: Outcome) -> LinesTaken
     ensures { λ r. ⌜ r ≡ linesTakenOf (stop outcome) ⌝ }
 {
     let job = jobrules::empty_job(0, 0);
@@ -94,7 +99,7 @@ fn refused(outcome: Outcome) -> LinesTaken
 }
 
 // A line that is accepted: the lines go on.
-fn accepted(stage: usize, job: StoredJob) -> LinesTaken
+fn line_accepted(stage: usize, job: StoredJob) -> LinesTaken
     ensures { λ r. ⌜ r ≡ onward stage job ⌝ }
 {
     LinesTaken {
@@ -109,9 +114,9 @@ fn take_rows(h: usize, line: usize) -> LinesTaken
     ensures { λ r. ⌜ r ≡ linesTakenOf (unless (within 1 1024 h) (Outcome.OutOfRange line) (go (sized h))) ⌝ }
 {
     if !jobrules::is_within(1, 1024, h) {
-        return refused(Outcome::OutOfRange(line));
+        return line_refused(Outcome::OutOfRange(line));
     }
-    accepted(SIZED, jobrules::empty_job(h, 0))
+    line_accepted(SIZED, jobrules::empty_job(h, 0))
 }
 
 // The line `(tracks K)` in its place.
@@ -119,9 +124,9 @@ fn take_tracks(h: usize, k: usize, line: usize) -> LinesTaken
     ensures { λ r. ⌜ r ≡ linesTakenOf (unless (within 1 128 k) (Outcome.OutOfRange line) (go (filled (emptyBoard (boardOf h k))))) ⌝ }
 {
     if !jobrules::is_within(1, 128, k) {
-        return refused(Outcome::OutOfRange(line));
+        return line_refused(Outcome::OutOfRange(line));
     }
-    accepted(FILLED, jobrules::empty_job(h, k))
+    line_accepted(FILLED, jobrules::empty_job(h, k))
 }
 
 // A net in its place.
@@ -131,7 +136,7 @@ fn take_net(job: StoredJob, net: Net, line: usize) -> LinesTaken
 {
     let outcome = jobrules::net_outcome(job, net, line);
     if jobrules::number_of(outcome) != 0 {
-        return refused(outcome);
+        return line_refused(outcome);
     }
     let more = jobrules::with_net(job, net);
     LinesTaken {
@@ -148,7 +153,7 @@ fn take_block(job: StoredJob, block: Block, line: usize) -> LinesTaken
 {
     let outcome = jobrules::block_outcome(job, block, line);
     if jobrules::number_of(outcome) != 0 {
-        return refused(outcome);
+        return line_refused(outcome);
     }
     let more = jobrules::with_block(job, block);
     LinesTaken {
@@ -180,11 +185,11 @@ fn take_form(stage: usize, job: StoredJob, form: Form, line: usize) -> LinesTake
     ensures { λ r. ⌜ r ≡ linesTakenOf (step line (stateOf stage job) form) ⌝ }
 {
     if !may_stand(stage, form) {
-        return refused(Outcome::NotOfForm(line));
+        return line_refused(Outcome::NotOfForm(line));
     }
     match form {
-        Form::Blank => accepted(stage, job),
-        Form::Board => accepted(OPENED, job),
+        Form::Blank => line_accepted(stage, job),
+        Form::Board => line_accepted(OPENED, job),
         Form::Rows(h) => take_rows(h, line),
         Form::Tracks(k) => take_tracks(job.board.rows, k, line),
         Form::Net(number, left, right, min, max) => {
@@ -205,8 +210,8 @@ fn take_form(stage: usize, job: StoredJob, form: Form, line: usize) -> LinesTake
             };
             take_block(job, block, line)
         }
-        Form::Close => accepted(CLOSED, job),
-        Form::Other => refused(Outcome::NotOfForm(line)),
+        Form::Close => line_accepted(CLOSED, job),
+        Form::Other => line_refused(Outcome::NotOfForm(line)),
     }
 }
 

@@ -12,16 +12,11 @@ use Rattle.board.specs.Job.{Job}
 use Rattle.board.specs.Rival.{worthSum}
 use Rattle.board.specs.Accepted.{AcceptedJob}
 use Rattle.layout.specs.Tree.{DrawnTrack}
-use Rattle.sound.specs.Wires.{worthOf, sumOver, wireNumbers, trackNumbers, lineNumbers, wiresSum}
+use Rattle.sound.specs.Wires.{worthOf, sumOver, wireNumbers, trackNumbers, lineNumbers, wiresSum, printedSum}
 use Rattle.sound.specs.Sound.{SoundTracks, Sound}
 use Rattle.lists.proofs.Joins.{Each-each, Each-mapped}
 use Rattle.sound.proofs.Sums.{Distinct, sum-le, sum-join, sum-ones}
 use Rattle.sound.proofs.Nets.{nets-sum}
-
--- the sum of the numbers of the track lines
-unfoldable pub printedSum : List DrawnTrack → ℕ
-printedSum [] = 0
-printedSum (tr ∷ trs) = tr .sum + printedSum trs
 
 printed : (job : Job) (earlier : List ℕ) (t : ℕ) (trs : List DrawnTrack) → SoundTracks job earlier t trs → printedSum trs ≡ sumOver (worthOf job) (trackNumbers trs)
 unfolding printedSum trackNumbers wiresSum sumOver

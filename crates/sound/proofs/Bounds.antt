@@ -26,10 +26,10 @@ use Rattle.layout.specs.Tree.{Wire, DrawnTrack, Layout, Line, track, wire, loos
 use Rattle.layout.specs.LayoutText.{pointsThen, lineText, linesText, wiresThen, tracksThen, looseThen, layoutLines, layoutText}
 use Rattle.layout.specs.ReadBack.{smallPoints, smallLine, smallLines, isSmall}
 use Rattle.layout.specs.Drawing.{viaColumn, wireColumn, at, samePoint, distinctFrom, nearRow, farRow, corners, pointsOn, wireOf}
-use Rattle.sound.specs.Wires.{wireNumbers, trackNumbers, lineNumbers}
+use Rattle.sound.specs.Wires.{wireNumbers, trackNumbers, lineNumbers, printedSum}
 use Rattle.sound.specs.Sound.{SoundTracks, Sound}
 use Rattle.lists.proofs.Joins.{Each-each, Each-mapped}
-use Rattle.sound.proofs.Balance.{printedSum, balance, lines-count}
+use Rattle.sound.proofs.Balance.{balance, lines-count}
 
 -- ---- bounds of a layout
 

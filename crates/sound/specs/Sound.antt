@@ -22,7 +22,7 @@ pub record SoundPlacement (job : Job) (earlier : List ℕ) (t : ℕ) (p : Placem
   pub clear : Clear job t p
   pub ready : (m : Net) → List·Memᴰ m (job .nets) → Precedes m (p .net) → List·Memᴰ (m .number) earlier
 
--- the line of track t and the wires under it, where the nets with the numbers `earlier` stand on earlier tracks
+-- the line of track t and the wires under it keep the rules, where the nets with the numbers `earlier` stand on earlier tracks
 pub record SoundTrack (job : Job) (earlier : List ℕ) (t : ℕ) (tr : DrawnTrack) : Type 0 where
   pub number : tr .track ≡ t
   pub places : List Placement
@@ -32,7 +32,7 @@ pub record SoundTrack (job : Job) (earlier : List ℕ) (t : ℕ) (tr : DrawnTrac
   pub apart : EachPair Apart places
   pub sum-is : wiresSum job (tr .wires) ≡ tr .sum
 
--- the tracks from track t on
+-- the tracks from track t on are sound, where the nets with the numbers `earlier` stand on the tracks before them
 abbrev pub SoundTracks : Job → List ℕ → ℕ → List DrawnTrack → Type 0
 SoundTracks job earlier t [] = Unit {0}
 SoundTracks job earlier t (tr ∷ trs) =

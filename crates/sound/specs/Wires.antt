@@ -18,7 +18,7 @@ pub record RivalWires (job : Job) (earlier : List ℕ) (t : ℕ) (ws : List Wire
   pub rival : Rival job earlier t places
   pub drawn : ws ≡ map (wireOf (job .board) t) places
 
--- what the net with number k is worth, 0 if no net has it
+-- what a net is worth, 0 if there is none
 unfoldable pub worthBy : Job → Option Net → ℕ
 worthBy job none = 0
 worthBy job (some n) = worth (job .board) n
@@ -27,24 +27,29 @@ worthBy job (some n) = worth (job .board) n
 unfoldable pub worthOf : Job → ℕ → ℕ
 worthOf job k = worthBy job (netNumbered job k)
 
--- a sum over numbers
+-- f added up over numbers
 unfoldable pub sumOver : (ℕ → ℕ) → List ℕ → ℕ
 sumOver f [] = 0
 sumOver f (k ∷ ks) = f k + sumOver f ks
 
--- the numbers of wires, of the wires of tracks, and of all lines
+-- the numbers of the nets of wires
 abbrev pub wireNumbers : List Wire → List ℕ
 wireNumbers ws = map (λ w. w .number) ws
 
--- the numbers of the wires of tracks
+-- the numbers of the nets of the wires of tracks
 unfoldable pub trackNumbers : List DrawnTrack → List ℕ
 trackNumbers [] = []
 trackNumbers (tr ∷ trs) = wireNumbers (tr .wires) ++ trackNumbers trs
 
--- the numbers of all lines, wires and loose nets
+-- the numbers of the nets of all lines, wires and loose ones
 unfoldable pub lineNumbers : Layout → List ℕ
 lineNumbers l = trackNumbers (l .tracks) ++ l .loose
 
 -- the sum of wires: each counts by its number
 unfoldable pub wiresSum : Job → List Wire → ℕ
 wiresSum job ws = sumOver (worthOf job) (wireNumbers ws)
+
+-- the sum of the numbers of the track lines
+unfoldable pub printedSum : List DrawnTrack → ℕ
+printedSum [] = 0
+printedSum (tr ∷ trs) = tr .sum + printedSum trs

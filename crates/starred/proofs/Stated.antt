@@ -10,7 +10,8 @@ use Rattle.board.proofs.Lengths.{rows-21, rows-20, rows-14, min-22, min-8}
 use Rattle.text.specs.Bytes.{bytes}
 use Rattle.jobfile.specs.declared.Outcome.the-variants.{NotOfForm, NoLength}
 use Rattle.jobfile.specs.Read.{boardOf, emptyBoard}
-use Rattle.jobfile.proofs.Texts.{readAs, worked-board}
+use Rattle.jobfile.specs.TextsRead.{readAs}
+use Rattle.jobfile.proofs.Texts.{worked-board}
 use Rattle.routing.specs.Route.{routeText}
 use Rattle.routing.proofs.WorkedLayout.{computedText, worked-text}
 use Rattle.starred.specs.Boards.{AsStated, starredBoards}
@@ -27,14 +28,31 @@ no-nets = refl
 -- the one fact about the whole list
 pub all-stated : Each AsStated starredBoards
 unfolding readAs
-all-stated =
-    (record { job = workedJob; read = worked-board; written-is = worked-text },
-    (record { job = triedJob 21 23 23; net = triedNet 23 23; read = refl; only = refl; tried = rows-21; so-many = refl },
-    (record { job = triedJob 20 23 23; net = triedNet 23 23; read = refl; only = refl; tried = rows-20; so-many = refl },
-    (record { job = triedJob 14 23 23; net = triedNet 23 23; read = refl; only = refl; tried = rows-14; so-many = refl },
-    (record { job = triedJob 21 22 23; net = triedNet 22 23; read = refl; only = refl; tried = min-22; so-many = refl },
-    (record { outcome = NoLength 4; read = refl; number-is = refl; line-is = refl },
-    (record { job = triedJob 21 8 9; net = triedNet 8 9; read = refl; only = refl; tried = min-8; so-many = refl },
-    (record { outcome = NoLength 4; read = refl; number-is = refl; line-is = refl },
-    (record { job = emptyBoard (boardOf 21 2); read = refl; written-is = no-nets },
-    (record { outcome = NotOfForm 1; read = refl; number-is = refl; line-is = refl }, tt))))))))))
+all-stated = (
+  record { job = workedJob; read = worked-board; written-is = worked-text },
+  (
+    record { job = triedJob 21 23 23; net = triedNet 23 23; read = refl; only = refl; tried = rows-21; so-many = refl },
+    (
+      record { job = triedJob 20 23 23; net = triedNet 23 23; read = refl; only = refl; tried = rows-20; so-many = refl },
+      (
+        record { job = triedJob 14 23 23; net = triedNet 23 23; read = refl; only = refl; tried = rows-14; so-many = refl },
+        (
+          record { job = triedJob 21 22 23; net = triedNet 22 23; read = refl; only = refl; tried = min-22; so-many = refl },
+          (
+            record { outcome = NoLength 4; read = refl; number-is = refl; line-is = refl },
+            (
+              record { job = triedJob 21 8 9; net = triedNet 8 9; read = refl; only = refl; tried = min-8; so-many = refl },
+              (
+                record { outcome = NoLength 4; read = refl; number-is = refl; line-is = refl },
+                (
+                  record { job = emptyBoard (boardOf 21 2); read = refl; written-is = no-nets },
+                  (record { outcome = NotOfForm 1; read = refl; number-is = refl; line-is = refl }, tt),
+                ),
+              ),
+            ),
+          ),
+        ),
+      ),
+    ),
+  ),
+)

@@ -10,6 +10,7 @@ use Rattle.text.specs.Bytes.{bytes}
 use Rattle.jobfile.specs.declared.Outcome.{Outcome}
 use Rattle.jobfile.specs.Read.{accepted, refused, readJob}
 use Rattle.jobfile.specs.Answers.{numberOf, lineOf}
+use Rattle.jobfile.specs.TextsRead.{workedText}
 use Rattle.routing.specs.Route.{routeText}
 
 -- what the document says of a job file: the bytes of its layout; of its one net the shortest allowed length, the stretch, the needed rows,
@@ -62,7 +63,7 @@ abbrev pub starredBoards : List StarredBoard
 starredBoards =
     -- the board above, and the layout that route writes, exactly
     record {
-      text = bytes "(board\n (rows 10)\n (tracks 2)\n (net 1 2 4 7 7)\n (net 2 6 8 11 12)\n (net 3 9 10 6 8)\n (net 4 3 2 6 6)\n (net 5 5 6 6 6)\n (block 2 6 6)\n)\n";
+      text = bytes workedText;
       expected = gives-layout (bytes "(layout\n (track 1 9)\n (wire 1 (0 2) (1 2) (1 4) (5 4))\n (wire 2 (0 6) (1 6) (1 5) (2 5) (2 8) (1 8) (5 8))\n (wire 3 (0 9) (1 9) (1 10) (5 10))\n (track 2 2)\n (wire 4 (0 3) (3 3) (3 2) (5 2))\n (loose 5)\n)\n");
     } ∷
     -- rows 21, tracks 1, net 10 to 14: min = max = 23 gives e = 7, n = 12, eight tops, 3 to 10

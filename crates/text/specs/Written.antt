@@ -17,7 +17,8 @@ pub record Written (text before after : List ℕ) (r : ℕ) : Type 0 where
 abbrev pub overAt : ℕ → List ℕ → List ℕ → List ℕ
 overAt at text s = take at s ++ over text (drop at s)
 
--- the same where the writer is told the place, and answers r, the place behind the text
+-- a writer that is told the place `at` answers r, the place behind the text; its buffer afterwards has the text over its bytes from `at`
+-- on, the rest as before
 pub record WrittenAt (at : ℕ) (text before after : List ℕ) (r : ℕ) : Type 0 where
   pub next : r ≡ at + length text
   pub bytes : after ≡ overAt at text before

@@ -11,7 +11,7 @@ use Rattle.keywords.specs.Keywords.{wordOf}
 use Rattle.keywords.specs.declared.Vocabulary.the-variants.{Layout}
 use Rattle.layout.specs.declared.Point.{Point}
 use Rattle.layout.specs.Drawing.{at, samePoint}
-use Rattle.writer.specs.Lines.{headText, pointText, nextText, threeText, pathText, pinText, plainPath, stretchedPath}
+use Rattle.writer.specs.Lines.{headText, pointText, nextText, threeText, tailText, pathText, pinText, plainPath, stretchedPath}
 
 pub head-parts : (i n : ℕ) → headText i n ≡ ((32 ∷ 40 ∷ []) ++ wordOf Layout i) ++ (32 ∷ digits n)
 unfolding headText
@@ -42,16 +42,20 @@ pub next-other : (p q : Point) → samePoint p q ≡ false → nextText p q ≡ 
 unfolding nextText
 next-other p q e = rw e
 
--- the points of a plain wire are the pin and three more; those of a stretched one the pin, three, three and one more
+-- the points of a plain wire are the pin and three more; those of a stretched one the pin, three, and those behind them
 pub plain-parts : (c w l r : ℕ) → pinText l (plainPath c w l r) ≡ pointText (at 0 l) ++ threeText (at 0 l) (at c l) (at c r) (at w r)
 unfolding pinText pathText threeText
 plain-parts c w l r = simp (append-assoc, append-nil)
 
 pub stretched-parts : (c w l r u v : ℕ) → pinText l (stretchedPath c w l r u v) ≡
-    ((pointText (at 0 l) ++ threeText (at 0 l) (at c l) (at c u) (at (c + 1) u)) ++ threeText (at (c + 1) u) (at (c + 1) v) (at c v) (at c r)) ++
-    nextText (at c r) (at w r)
-unfolding pinText pathText threeText
+    (pointText (at 0 l) ++ threeText (at 0 l) (at c l) (at c u) (at (c + 1) u)) ++ tailText c w (at (c + 1) u) r v
+unfolding pinText pathText threeText tailText
 stretched-parts c w l r u v = simp (append-assoc, append-nil)
+
+-- those are three and one more
+pub tail-parts : (c w : ℕ) (p : Point) (r v : ℕ) → tailText c w p r v ≡ threeText p (at (c + 1) v) (at c v) (at c r) ++ nextText (at c r) (at w r)
+unfolding tailText
+tail-parts c w p r v = refl
 
 -- what stands from place 0 on stands at the start
 pub from-start : {w s t : List ℕ} {r : ℕ} → WrittenAt 0 w s t r → Written w s t r

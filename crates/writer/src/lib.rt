@@ -4,7 +4,7 @@ ghost use Prim.Native.Nat.{_+_, _≤_, _<_};
 ghost use lib.ListN.{length};
 ghost use Rattle.text.specs.Written.{Written, WrittenAt};
 ghost use Rattle.layout.specs.Drawing.{samePoint};
-ghost use Rattle.writer.specs.Lines.{headText, pointText, nextText, threeText, pinText, plainPath, stretchedPath, pointsText, wireLine, Drawable, endedLine};
+ghost use Rattle.writer.specs.Lines.{headText, pointText, nextText, threeText, tailText, pinText, plainPath, stretchedPath, pointsText, wireLine, Drawable, endedLine};
 ghost use Rattle.layout.specs.Tree.{opens as openingLine, track as trackLine, loose as looseLine, closes as closingLine};
 use board::Board;
 use board::Net;
@@ -91,6 +91,32 @@ fn put_plain(out: &mut [u8], at: usize, c: usize, w: usize, l: Row, r: Row) -> u
     put_three(out, a, pin, p, q, s)
 }
 
+// Writes the points of a stretched wire behind p, the one where its stretched part begins: down or up to row v, back to the via column c,
+// to row r, and on to the right pins in column w.
+fn put_tail(out: &mut [u8], at: usize, c: usize, w: usize, p: Point, r: Row, v: Row) -> usize
+    requires { ⌜ (c ≤ 1024) × (at + length (tailText c w p (r .0) (v .0)) ≤ length (now out)) ⌝ }
+    ensures { λ e. ⌜ WrittenAt at (tailText c w p (r .0) (v .0)) (now (out .entry)) (now (out .exit)) e ⌝ }
+{
+    let p1 = Point {
+        column: c + 1,
+        row: v.0,
+    };
+    let p2 = Point {
+        column: c,
+        row: v.0,
+    };
+    let p3 = Point {
+        column: c,
+        row: r.0,
+    };
+    let a = put_three(out, at, p, p1, p2, p3);
+    let p4 = Point {
+        column: w,
+        row: r.0,
+    };
+    put_next(out, a, p3, p4)
+}
+
 // Writes the points of a stretched wire, whose stretched part goes from row u to row v.
 fn put_stretched(
     out: &mut [u8],
@@ -123,24 +149,7 @@ fn put_stretched(
         row: u.0,
     };
     let b = put_three(out, a, pin, p1, p2, p3);
-    let p4 = Point {
-        column: c + 1,
-        row: v.0,
-    };
-    let p5 = Point {
-        column: c,
-        row: v.0,
-    };
-    let p6 = Point {
-        column: c,
-        row: r.0,
-    };
-    let d = put_three(out, b, p3, p4, p5, p6);
-    let p7 = Point {
-        column: w,
-        row: r.0,
-    };
-    put_next(out, d, p6, p7)
+    put_tail(out, b, c, w, p3, r, v)
 }
 
 // Writes the points of a placement of a net on a track.
@@ -233,6 +242,7 @@ pub fn closing_line(out: &mut [u8]) -> usize
 
 // The same with a place: the rest of the buffer from there on is lent to the line writer. Each returns the next place.
 
+// Writes the line of a wire from a place on.
 pub fn put_wire(
     out: &mut [u8],
     at: usize,
@@ -249,6 +259,7 @@ pub fn put_wire(
     at + wire_line(&mut out[at..], board, track, net, shape, top)
 }
 
+// Writes the line of a track from a place on.
 pub fn put_track(out: &mut [u8], at: usize, track: Track, sum: usize) -> usize
     requires { ⌜ at + length (endedLine (trackLine (track .0) sum)) ≤ length (now out) ⌝ }
     ensures { λ e. ⌜ WrittenAt at (endedLine (trackLine (track .0) sum)) (now (out .entry)) (now (out .exit)) e ⌝ }
@@ -256,6 +267,7 @@ pub fn put_track(out: &mut [u8], at: usize, track: Track, sum: usize) -> usize
     at + track_line(&mut out[at..], track, sum)
 }
 
+// Writes the line of a loose net from a place on.
 pub fn put_loose(out: &mut [u8], at: usize, number: usize) -> usize
     requires { ⌜ at + length (endedLine (looseLine number)) ≤ length (now out) ⌝ }
     ensures { λ e. ⌜ WrittenAt at (endedLine (looseLine number)) (now (out .entry)) (now (out .exit)) e ⌝ }
@@ -263,6 +275,7 @@ pub fn put_loose(out: &mut [u8], at: usize, number: usize) -> usize
     at + loose_line(&mut out[at..], number)
 }
 
+// Writes the first line from a place on.
 pub fn put_opening(out: &mut [u8], at: usize) -> usize
     requires { ⌜ at + length (endedLine openingLine) ≤ length (now out) ⌝ }
     ensures { λ e. ⌜ WrittenAt at (endedLine openingLine) (now (out .entry)) (now (out .exit)) e ⌝ }
@@ -270,6 +283,7 @@ pub fn put_opening(out: &mut [u8], at: usize) -> usize
     at + opening_line(&mut out[at..])
 }
 
+// Writes the last line from a place on.
 pub fn put_closing(out: &mut [u8], at: usize) -> usize
     requires { ⌜ at + length (endedLine closingLine) ≤ length (now out) ⌝ }
     ensures { λ e. ⌜ WrittenAt at (endedLine closingLine) (now (out .entry)) (now (out .exit)) e ⌝ }

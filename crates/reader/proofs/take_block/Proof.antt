@@ -15,12 +15,12 @@ block-outcome-requires c κs = search needs
 number-of-requires : tie.Need-number-of-requires
 number-of-requires c κs = search needs
 
-refused-requires : tie.Need-refused-requires
-refused-requires c κs = search needs
+line-refused-requires : tie.Need-line-refused-requires
+line-refused-requires c κs = search needs
 
 returns : tie.Need-returns
 returns c =
-    c .refused .ensures
+    c .line-refused .ensures
     ∙ refused-is _ _ (c .before .before .before .block-outcome .ensures) (λ z. c .before .if1 .taken (c .before .before .number-of .ensures ∙ z))
 
 with-block-requires : tie.Need-with-block-requires
@@ -39,7 +39,7 @@ take-block-spec =
     (tie.spec
     block-outcome-requires
     number-of-requires
-    refused-requires
+    line-refused-requires
     returns
     with-block-requires
     returns-2)

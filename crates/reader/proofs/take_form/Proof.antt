@@ -11,11 +11,11 @@ use Rattle.reader.proofs.take_form.Tie as tie
 may-stand-requires : tie.Need-may-stand-requires
 may-stand-requires c κs = search needs
 
-refused-requires : tie.Need-refused-requires
-refused-requires c κs = search needs
+line-refused-requires : tie.Need-line-refused-requires
+line-refused-requires c κs = search needs
 
 returns : tie.Need-returns
-returns c = c .refused .ensures ∙ ap linesTakenOf (wrong-place _ _ _ _ (sym (c .before .before .may-stand .ensures) ∙ not-true _ (c .before .if1 .taken)))
+returns c = c .line-refused .ensures ∙ ap linesTakenOf (wrong-place _ _ _ _ (sym (c .before .before .may-stand .ensures) ∙ not-true _ (c .before .if1 .taken)))
 
 in-place : (c : tie.Else1) → mayStand (c .before .before .args .stage) (c .before .before .args .form) ≡ true
 in-place c = sym (c .before .may-stand .ensures) ∙ not-false _ (c .if1 .left)
@@ -23,14 +23,14 @@ in-place c = sym (c .before .may-stand .ensures) ∙ not-false _ (c .if1 .left)
 enum-told : tie.Need-enum-told
 enum-told c = search needs
 
-accepted-requires : tie.Need-accepted-requires
-accepted-requires c κs = search needs
+line-accepted-requires : tie.Need-line-accepted-requires
+line-accepted-requires c κs = search needs
 
 enum-told-2 : tie.Need-enum-told-2
 enum-told-2 c = search needs
 
-accepted-requires-2 : tie.Need-accepted-requires-2
-accepted-requires-2 c κs = search needs
+line-accepted-requires-2 : tie.Need-line-accepted-requires-2
+line-accepted-requires-2 c κs = search needs
 
 enum-known-form : tie.Need-enum-known-form
 enum-known-form c = search needs
@@ -59,20 +59,20 @@ take-block-requires c κs = block-filled 0 _ _ _ (c .before .before .before .bef
 enum-told-3 : tie.Need-enum-told-3
 enum-told-3 c = search needs
 
-accepted-requires-3 : tie.Need-accepted-requires-3
-accepted-requires-3 c κs = search needs
+line-accepted-requires-3 : tie.Need-line-accepted-requires-3
+line-accepted-requires-3 c κs = search needs
 
 enum-told-4 : tie.Need-enum-told-4
 enum-told-4 c = search needs
 
-refused-requires-2 : tie.Need-refused-requires-2
-refused-requires-2 c κs = search needs
+line-refused-requires-2 : tie.Need-line-refused-requires-2
+line-refused-requires-2 c κs = search needs
 
 returns-2 : tie.Need-returns-2
-returns-2 c = c .accepted .ensures ∙ blank-line _ _ _ _ (c .before .before .before .before .before .pre) (c .before .enum-told .given .1)
+returns-2 c = c .line-accepted .ensures ∙ blank-line _ _ _ _ (c .before .before .before .before .before .pre) (c .before .enum-told .given .1)
 
 returns-3 : tie.Need-returns-3
-returns-3 c = c .accepted2 .ensures ∙ board-line _ _ _ _ (c .before .before .before .before .before .pre) (c .before .enum-told2 .given .1) (in-place (c .before .before .before))
+returns-3 c = c .line-accepted2 .ensures ∙ board-line _ _ _ _ (c .before .before .before .before .before .pre) (c .before .enum-told2 .given .1) (in-place (c .before .before .before))
 
 returns-4 : tie.Need-returns-4
 returns-4 c = c .take-rows .ensures ∙ ap linesTakenOf (rows-place _ _ _ _ _ (c .before .before .form .given .1) (in-place (c .before .before .before .before)))
@@ -87,22 +87,22 @@ returns-7 : tie.Need-returns-7
 returns-7 c = c .take-block .ensures ∙ ap linesTakenOf (block-place _ _ _ _ _ _ _ (c .before .before .form4 .given .1) (in-place (c .before .before .before .before)))
 
 returns-8 : tie.Need-returns-8
-returns-8 c = c .accepted3 .ensures ∙ close-line _ _ _ _ (c .before .before .before .before .before .pre) (c .before .enum-told3 .given .1) (in-place (c .before .before .before))
+returns-8 c = c .line-accepted3 .ensures ∙ close-line _ _ _ _ (c .before .before .before .before .before .pre) (c .before .enum-told3 .given .1) (in-place (c .before .before .before))
 
 returns-9 : tie.Need-returns-9
-returns-9 c = c .refused2 .ensures ∙ other-line _ _ _ _ (c .before .enum-told4 .given .1)
+returns-9 c = c .line-refused2 .ensures ∙ other-line _ _ _ _ (c .before .enum-told4 .given .1)
 
 pub take-form-spec : {M : Type 1} → statement M
 take-form-spec =
     tie.close
     (tie.spec
     may-stand-requires
-    refused-requires
+    line-refused-requires
     returns
     enum-told
-    accepted-requires
+    line-accepted-requires
     enum-told-2
-    accepted-requires-2
+    line-accepted-requires-2
     enum-known-form
     take-rows-requires
     enum-known-form-2
@@ -112,9 +112,9 @@ take-form-spec =
     enum-known-form-4
     take-block-requires
     enum-told-3
-    accepted-requires-3
+    line-accepted-requires-3
     enum-told-4
-    refused-requires-2
+    line-refused-requires-2
     returns-2
     returns-3
     returns-4

@@ -45,13 +45,13 @@ from-row s at c to (Value r end) p next n e f =
     let b = byte-read s end 41 q in
     let m = spaced-read s to r end e in
     let here : PointRead s at (record { column = c; row = r }) (end + 1) =
-        record {
-          text = n .text ∙ ap (λ (l : List ℕ). 32 ∷ 40 ∷ (digits c ++ l)) (m .text ∙ ap (λ (l : List ℕ). 32 ∷ (digits r ++ l)) (b .text));
-          small-column = n .small;
-          small-row = m .small;
-          ahead = omega arith;
-          within = omega arith;
-        } in
+    record {
+      text = n .text ∙ ap (λ (l : List ℕ). 32 ∷ 40 ∷ (digits c ++ l)) (m .text ∙ ap (λ (l : List ℕ). 32 ∷ (digits r ++ l)) (b .text));
+      small-column = n .small;
+      small-row = m .small;
+      ahead = omega arith;
+      within = omega arith;
+    } in
     let i : record { column = c; row = r } ≡ p = cc in
     let j : end + 1 ≡ next = cc in
     rw (← i, ← j) here)

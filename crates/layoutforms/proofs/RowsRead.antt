@@ -2,7 +2,7 @@
 use mathlib.Core.Path.{_≡_, refl, sym, ap, _∙_}
 use mathlib.Core.Bool.{true, false, cond}
 use mathlib.Core.List.{List, [], _∷_, _++_}
-use mathlib.Core.Option.{some}
+use mathlib.Core.Option.{Option, none, some}
 use Prim.Native.Nat.{ℕ, _+_, _≤_, _<_}
 use native.Mathlib.Omega.{arith}
 use lib.ListN.{length, drop, length-append}
@@ -34,11 +34,35 @@ rows-found c u v [] = refl
 rows-found c u v (p ∷ ps) =
     by-test (eqb (p .column) c) (λ e. rw (e, rows-found c u (p .row) ps)) (λ e. rw (e, rows-found c u v ps))
 
+-- a point in another column changes nothing
+rows-skip : (c : ℕ) (p : Point) (ps : List Point) (o : Option ℕ) → eqb (p .column) c ≡ false → rowsFrom c ps o ≡ rowsFrom c (p ∷ ps) o
+unfolding rowsFrom lastIn
+rows-skip c p ps none e = refl
+rows-skip c p ps (some u) e = rw e
+
+rows-first : (c : ℕ) (p : Point) (ps : List Point) → eqb (p .column) c ≡ true → record { found = true; first = p .row; last = lastIn c (p .row) ps } ≡ rowsIn c (p ∷ ps)
+unfolding rowsIn rowsFrom firstIn lastIn
+rows-first c p ps e = rw (e, e)
+
+rows-later : (c : ℕ) (p : Point) (ps : List Point) → eqb (p .column) c ≡ false → rowsIn c ps ≡ rowsIn c (p ∷ ps)
+unfolding rowsIn firstIn
+rows-later c p ps e = rw e (rows-skip c p ps (firstIn c ps) e)
+
+rows-end : (c : ℕ) → noRows ≡ rowsIn c []
+unfolding rowsIn rowsFrom firstIn
+rows-end c = refl
+
 rows-all : (c : ℕ) (ps : List Point) → withPoints c noRows ps ≡ rowsIn c ps
-unfolding withPoints withPoint rowsIn rowsFrom firstIn lastIn
-rows-all c [] = refl
+unfolding withPoints withPoint
+rows-all c [] = rows-end c
 rows-all c (p ∷ ps) =
-    by-test (eqb (p .column) c) (λ e. rw (e, rows-found c (p .row) (p .row) ps)) (λ e. ?)
+    by-test (eqb (p .column) c) (λ e. rw e (rows-found c (p .row) (p .row) ps ∙ rows-first c p ps e))
+    (λ e. rw e (rows-all c ps ∙ rows-later c p ps e))
+
+-- no points
+no-points : pointsIn shutText ≡ []
+unfolding pointsIn pointsThen
+no-points = points-read []
 
 -- ---- a walk over the points
 
@@ -76,8 +100,26 @@ rows-past {s} {at} {c} {rows} {p} n k h =
 
 -- ---- the points of the line of a wire
 
+-- the number of a wire ends where its points begin
+points-begin : (w : Wire) → drop (scan endsWord (lineText (wire w)) 7) (lineText (wire w)) ≡ pointsThen (w .points) shutText
+unfolding scan lineText
+points-begin w =
+    let f = first-byte (w .points) in
+    let d = ap (λ (l : List ℕ). digits (w .number) ++ l) (f .2) in
+    let u : until endsWord (digits (w .number) ++ pointsThen (w .points) shutText) ≡ length (digits (w .number)) =
+    ap (until endsWord) d ∙ until-then endsWord (digits (w .number)) (f .0) (f .1) (digits-inner (w .number)) (f .3) in
+    rw u (sym (drop-drop (length (digits (w .number))) 7 (lineText (wire w))) ∙ drop-append-seam (digits (w .number)) (pointsThen (w .points) shutText))
+
 pub wire-rows : (s : List ℕ) (c to : ℕ) (rows : ColumnRows) → to ≡ scan endsWord s 7 → PointRows (drop to s) c rows → RowsOf s c rows
-wire-rows s c to rows e h w r = ?
+unfolding smallLine pointsIn
+wire-rows s c to rows e h w r =
+    let l = read-line-sound s (wire w) r in
+    let k = and-split (isSmall (w .number)) (smallPoints (w .points)) (l .1) in
+    let t : drop to s ≡ pointsThen (w .points) shutText = (rw (e, l .0) (points-begin w)) in
+    h (ap isPoints t ∙ points-are (w .points) (k .1)) ∙ ap (rowsIn c) (ap pointsIn t ∙ points-read (w .points))
 
 pub short-rows : (s : List ℕ) (c : ℕ) (rows : ColumnRows) → length s < 7 → RowsOf s c rows
-short-rows s c rows h w r = ?
+unfolding lineText
+short-rows s c rows h w r =
+    let l : length s ≡ length (lineText (wire w)) = ap length (read-line-sound s (wire w) r .0) in
+    absurd (omega arith)

@@ -1,0 +1,2 @@
+-- The check passes what route writes.
+pub mod RouteJudged

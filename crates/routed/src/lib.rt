@@ -1,0 +1,1 @@
+// The check of what route writes: theorems in proofs/. There is no code here.

@@ -3,7 +3,7 @@ use Prim.Native.Nat.{ℕ}
 use mathlib.Core.Path.{_≡_, refl}
 use mathlib.Core.List.{List, [], _∷_}
 use Rattle.board.specs.Job.{Job}
-use Rattle.board.proofs.WorkedBoard.{workedJob}
+use Rattle.board.specs.WorkedBoard.{workedJob}
 use Rattle.text.specs.Bytes.{bytes}
 use Rattle.drc.specs.BrokenLines.{brokenEnd, brokenFrom, brokenLines}
 use Rattle.drc.proofs.ComputedVerdicts.{computed}

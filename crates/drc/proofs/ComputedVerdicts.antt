@@ -8,7 +8,7 @@ use Rattle.board.specs.declared.Net.{Net}
 use Rattle.board.specs.Length.{width, upper, lower, span, plainLength, shortest, needed, worth}
 use Rattle.board.specs.Job.{Job, closes, blocked}
 use Rattle.board.specs.Tests.{isLong, isShort, isFromOne, isOverUpper, isUnderLower, isToLast, clearRows, isClear, isOn, isBefore, isReady}
-use Rattle.board.proofs.WorkedBoard.{workedJob}
+use Rattle.board.specs.WorkedBoard.{workedJob}
 use Rattle.text.specs.Bytes.{bytes, same, joined, pieces, nonEmpty}
 use Rattle.text.specs.Digits.{digitsIn, digits, valueFrom}
 use Rattle.layout.specs.LayoutText.{pointsThen, lineText}

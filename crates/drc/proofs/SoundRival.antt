@@ -12,7 +12,8 @@ use Rattle.board.specs.Accepted.{AcceptedJob}
 use Rattle.layout.specs.Tree.{DrawnTrack}
 use Rattle.sound.specs.Wires.{RivalWires, wireNumbers, trackNumbers, lineNumbers, wiresSum}
 use Rattle.sound.specs.Sound.{SoundTrack, SoundTracks, Sound}
-use Rattle.sound.specs.UnbeatenText.{noTrack, UnbeatenText}
+use Rattle.routing.specs.DrawnTracks.{noTrack}
+use Rattle.routing.specs.Promises.{UnbeatenText}
 use Rattle.sound.proofs.Sums.{Distinct}
 use Rattle.drc.proofs.SoundKept.{fresh-of}
 

@@ -1,7 +1,7 @@
 -- The one placement that a wire's points can draw is drawn exactly if it is on the board and the line is its text. Assumes nothing.
 use Prim.Native.Nat.{ℕ, _+_, _-_, _*_, _≤_, _<_, min, max}
 use mathlib.Core.Path.{_≡_, refl, sym, ap, _∙_}
-use mathlib.Core.Bool.{Bool, true, false, cond, _&&_}
+use mathlib.Core.Bool.{true, false, _&&_}
 use mathlib.Core.List.{List, [], _∷_, _++_, append-assoc}
 use mathlib.Core.Option.{Option, none, some}
 use native.Mathlib.Omega.{arith}
@@ -9,26 +9,26 @@ use lib.ListN.{length, take, drop, length-append}
 use lib.Seq.{take-append-seam}
 use lib.Dec.{leb}
 use borrow.Author.Tests.{le-leb, lt-leb, leb-true}
-use Rattle.lists.proofs.Cases.{by-test, by-option, and-split}
+use Rattle.lists.proofs.Cases.{by-test, and-split}
 use Rattle.text.specs.Bytes.{same}
 use Rattle.text.specs.Written.{Written}
-use Rattle.text.proofs.Bytes.{same-eq, same-true, same-false}
+use Rattle.text.proofs.Bytes.{same-true, same-false}
 use Rattle.board.specs.declared.Board.{Board}
 use Rattle.board.specs.declared.Net.{Net}
 use Rattle.board.specs.declared.Row.{Row}
 use Rattle.board.specs.declared.Shape.{Shape}
 use Rattle.board.specs.declared.Shape.the-variants.{Plain, Stretched}
 use Rattle.board.specs.declared.Track.{Track}
-use Rattle.board.specs.Length.{upper, lower, span, extra}
+use Rattle.board.specs.Length.{upper, lower, span}
 use Rattle.board.specs.Placement.{Placement, bottom, placementAt}
 use Rattle.board.specs.Tests.{isFromOne, isOverUpper, isUnderLower, isToLast}
 use Rattle.board.specs.Accepted.{BoardInRange, NetInRange}
 use Rattle.layout.specs.declared.Point.{Point}
-use Rattle.layout.specs.Tree.{Line, Wire, wire}
+use Rattle.layout.specs.Tree.{Wire, wire}
 use Rattle.layout.specs.LayoutText.{lineText}
 use Rattle.layout.specs.ReadBack.{readLine, roughLine}
 use Rattle.layout.specs.Drawing.{wireColumn, pointsOn, wireOf}
-use Rattle.layout.specs.Drawn.{firstIn, lastIn, placementFrom, placementOf}
+use Rattle.layout.specs.Drawn.{firstIn, placementFrom, placementOf}
 use Rattle.layout.proofs.RoundTrip.{rough-line, read-line-sound}
 use Rattle.sound.proofs.Bounds.{wire-length, wire-bounds}
 use Rattle.layoutforms.specs.declared.ColumnRows.{ColumnRows}
@@ -38,14 +38,13 @@ use Rattle.drc.specs.Covers.{samePoints, isOnBoard, drawnOf}
 use Rattle.drc.proofs.Drawings.{samePoints-true, samePoints-refl}
 use Rattle.drawnwires.specs.DrawnPlaces.{placeOf, onlyPlace, wireText, OnBoard, DrawnIn}
 use Rattle.drawnwires.specs.declared.OnlyPlace.{OnlyPlace}
-use Rattle.drawnwires.specs.declared.DrawnPlace.{DrawnPlace}
 use Rattle.drawnwires.specs.declared.DrawnPlace.the-variants.{Nothing, At}
 
 -- ---- the one placement
 
 -- a placement of a net without it
-abbrev pub placed : Net → OnlyPlace → Placement
-placed n p = placementAt n (p .shape) (p .top .0)
+abbrev pub onlyPlacement : Net → OnlyPlace → Placement
+onlyPlacement n p = placementAt n (p .shape) (p .top .0)
 
 pub only-plain : (n : Net) (rows : ColumnRows) (top : Row) → rows .found ≡ false → top .0 ≡ upper n → record { top = top; shape = Plain } ≡ onlyPlace n rows
 unfolding onlyPlace
@@ -56,14 +55,14 @@ pub only-stretched : (n : Net) (rows : ColumnRows) (u v m e : ℕ) → rows .fou
 unfolding onlyPlace
 only-stretched n rows u v m e f g h k l = rw (f, l, g, h, k)
 
-from-first : (t : ℕ) (n : Net) (ps : List Point) (o : Option ℕ) → placed n (onlyPlace n (rowsFrom (wireColumn t) ps o)) ≡ placementFrom n ps t o
+placement-from-rows : (t : ℕ) (n : Net) (ps : List Point) (o : Option ℕ) → onlyPlacement n (onlyPlace n (rowsFrom (wireColumn t) ps o)) ≡ placementFrom n ps t o
 unfolding onlyPlace rowsFrom placementFrom
-from-first t n ps none = refl
-from-first t n ps (some u) = refl
+placement-from-rows t n ps none = refl
+placement-from-rows t n ps (some u) = refl
 
-pub only-one : (t : ℕ) (n : Net) (ps : List Point) → placed n (onlyPlace n (rowsIn (wireColumn t) ps)) ≡ placementOf t n ps
+pub only-one : (t : ℕ) (n : Net) (ps : List Point) → onlyPlacement n (onlyPlace n (rowsIn (wireColumn t) ps)) ≡ placementOf t n ps
 unfolding rowsIn placementOf
-only-one t n ps = from-first t n ps (firstIn (wireColumn t) ps)
+only-one t n ps = placement-from-rows t n ps (firstIn (wireColumn t) ps)
 
 -- ---- the line of a wire
 
@@ -89,8 +88,8 @@ same-drawing board track n sh top s w r e =
 
 -- a wire that ends on the board can be drawn, and its line is short
 module _ {board : Board} {track : Track} {n : Net} {sh : Shape} {top : Row} (o : OnBoard board track n sh top) where
-  pub drawable : Drawable board track n sh top
-  drawable =
+  pub drawable-on : Drawable board track n sh top
+  drawable-on =
       let k = o .board-range .rows-range in
       let l = o .board-range .tracks-range in
       let m = o .track-range in
@@ -163,18 +162,18 @@ on-board-last board p e = leb-true (bottom p) (board .rows) (and-split (isFromOn
 
 -- the rows of the wire column leave one placement: it is drawn, or none is
 module _ (board : Board) (track : Track) (n : Net) (s : List ℕ) (rows : ColumnRows) (of-wire : RowsOf s (2 * track .0) rows) (p : OnlyPlace) (only : p ≡ onlyPlace n rows) where
-  the-one : (w : Wire) → readLine s ≡ some (wire w) → placementOf (track .0) n (w .points) ≡ placed n p
+  the-one : (w : Wire) → readLine s ≡ some (wire w) → placementOf (track .0) n (w .points) ≡ onlyPlacement n p
   unfolding wireColumn
-  the-one w r = sym (ap (placed n) only ∙ ap (λ (x : ColumnRows). placed n (onlyPlace n x)) (of-wire w r) ∙ only-one (track .0) n (w .points))
+  the-one w r = sym (ap (onlyPlacement n) only ∙ ap (λ (x : ColumnRows). onlyPlacement n (onlyPlace n x)) (of-wire w r) ∙ only-one (track .0) n (w .points))
 
-  pub answer-off : isOnBoard board (placed n p) ≡ false → DrawnIn s board (track .0) n Nothing
+  pub answer-off : isOnBoard board (onlyPlacement n p) ≡ false → DrawnIn s board (track .0) n Nothing
   unfolding drawnOf placeOf
   answer-off h w r e = rw (the-one w r, h)
 
-  pub answer-other : isOnBoard board (placed n p) ≡ true → same s (wireText board track n (p .shape) (p .top)) ≡ false → DrawnIn s board (track .0) n Nothing
+  pub answer-other : isOnBoard board (onlyPlacement n p) ≡ true → same s (wireText board track n (p .shape) (p .top)) ≡ false → DrawnIn s board (track .0) n Nothing
   unfolding drawnOf placeOf
   answer-other b h w r e = rw (the-one w r, b, same-drawing board track n (p .shape) (p .top) s w r e, h)
 
-  pub answer-at : isOnBoard board (placed n p) ≡ true → same s (wireText board track n (p .shape) (p .top)) ≡ true → DrawnIn s board (track .0) n (At (p .top) (p .shape))
+  pub answer-at : isOnBoard board (onlyPlacement n p) ≡ true → same s (wireText board track n (p .shape) (p .top)) ≡ true → DrawnIn s board (track .0) n (At (p .top) (p .shape))
   unfolding drawnOf placeOf
   answer-at b h w r e = rw (the-one w r, b, same-drawing board track n (p .shape) (p .top) s w r e, h)

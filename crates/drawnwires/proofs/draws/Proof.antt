@@ -1,7 +1,7 @@
 -- `drawnwires::draws` meets its contract: the line is written and compared up to its byte 10. Assumes nothing.
 use mathlib.Core.Path.{ap, _∙_}
 use Rattle.text.specs.Bytes.{same}
-use Rattle.drawnwires.proofs.Drawn.{drawable, line-fits, line-used, line-bytes}
+use Rattle.drawnwires.proofs.Drawn.{drawable-on, line-fits, line-used, line-bytes}
 use native.Mathlib.Omega.{arith}
 use borrow.Author.Needs.{needs}
 use Rattle.drawnwires.proofs.draws.Statement.{statement}
@@ -11,7 +11,7 @@ slice-aggregate-wire-line : tie.Need-slice-aggregate-wire-line
 slice-aggregate-wire-line c = search needs
 
 wire-line-requires : tie.Need-wire-line-requires
-wire-line-requires c κs = (drawable (c .before .before .pre), omega (arith, line-fits (c .before .before .pre)))
+wire-line-requires c κs = (drawable-on (c .before .before .pre), omega (arith, line-fits (c .before .before .pre)))
 
 sub-same-bytes : tie.Need-sub-same-bytes
 sub-same-bytes c = omega (arith, line-used _ _ _ _ _ _ _ _ (c .before .wire-line .ensures))

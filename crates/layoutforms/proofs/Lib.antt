@@ -5,3 +5,4 @@ pub mod ExactForms
 pub mod Answers
 pub mod RowsRead
 pub mod FormsRead
+pub mod FormExamples

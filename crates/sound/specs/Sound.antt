@@ -45,7 +45,9 @@ pub record Sound (job : Job) (text : List ℕ) : Type 0 where
   pub count : length (layout .tracks) ≡ job .board .tracks
   pub tracks : SoundTracks job [] 1 (layout .tracks)
   pub loose-rise : EachPair (λ j k. j < k) (layout .loose)
-  -- each net of the job, and no other, has exactly one line
+  -- each net of the job has a line
   pub each : (n : Net) → List·Memᴰ n (job .nets) → List·Memᴰ (n .number) (lineNumbers layout)
+  -- no line has another number
   pub no-other : (k : ℕ) → List·Memᴰ k (lineNumbers layout) → List·Memᴰ k (map (λ n. n .number) (job .nets))
+  -- no two lines have the same number
   pub once : EachPair (λ j k. j ≡ k → ⊥) (lineNumbers layout)

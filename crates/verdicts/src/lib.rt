@@ -17,7 +17,7 @@ fn put_broken(out: &mut [u8], line: usize) -> usize
 
 // Writes what the program prints for a number of document 01 and a line: the refusal; without one, the broken line; without that, that the
 // layout is sound.
-fn put_verdict(out: &mut [u8], number: usize, line: usize) -> usize
+pub fn put_verdict(out: &mut [u8], number: usize, line: usize) -> usize
     requires { ⌜ length (verdictLine number line) ≤ length (now out) ⌝ }
     ensures { λ r. ⌜ Written (verdictLine number line) (now (out .entry)) (now (out .exit)) r ⌝ }
 {

@@ -1,0 +1,77 @@
+#!/bin/sh
+# Makes the input of the program `layouts` and the output that it must print, the second router's.
+#
+#     bench/layouts.sh SECOND_ROUTER STDIN STDOUT
+#
+# SECOND_ROUTER is the folder of the second router (its sources stand in src/, its check cases in vectors/). STDIN is the file to be made:
+# for each case the job's text and the layout's, each ended by byte 255, which stands in no text; STDOUT the file of what the second
+# router's check prints for them, a line each. Nothing of STDOUT comes from the code in this repository.
+#
+# The cases, in this order: all check cases of the vectors; then, for generated jobs of every family but `max`, the second router's layout
+# and three mutants of it, where the job is accepted and neither text is above 2,000 bytes.
+# Beside STDIN and STDOUT it writes below target/bench/ only.
+set -eu
+LC_ALL=C
+export LC_ALL
+if [ $# -ne 3 ]; then
+    echo "usage: bench/layouts.sh SECOND_ROUTER STDIN STDOUT" >&2
+    exit 2
+fi
+second=$1
+stdin=$2
+stdout=$3
+work=$(dirname "$0")/../target/bench
+mkdir -p "$work"
+rustc -O -A warnings -o "$work/second" "$second/src/main.rs"
+cases=0
+broken=0
+: > "$stdin"
+: > "$stdout"
+
+# adds the job in the file $1 with the layout in the file $2; the verdict stays in $work/verdict
+add() {
+    for text in "$1" "$2"; do
+        if ! tr -d '\377' < "$text" | cmp -s - "$text"; then
+            echo "$text: byte 255 stands in the text" >&2
+            exit 1
+        fi
+        cat "$text" >> "$stdin"
+        printf '\377' >> "$stdin"
+    done
+    "$work/second" check "$1" "$2" > "$work/verdict"
+    cat "$work/verdict" >> "$stdout"
+    cases=$((cases + 1))
+    case $(cat "$work/verdict") in
+        "(broken "*) broken=$((broken + 1)) ;;
+    esac
+}
+
+# every stored verdict is what the second router says today
+for layout in "$second"/vectors/*.lay; do
+    add "${layout%.lay}.job" "$layout"
+    if ! cmp -s "$work/verdict" "${layout%.lay}.verdict"; then
+        echo "$layout: the second router's verdict is not the stored one" >&2
+        exit 1
+    fi
+done
+
+for family in tiny small dense blocky precedence stretch edge spacing ties words; do
+    seed=30001
+    made=0
+    while [ "$made" -lt 6 ]; do
+        "$work/second" gen "$seed" "$family" > "$work/job"
+        "$work/second" route < "$work/job" > "$work/layout"
+        seed=$((seed + 1))
+        case $(head -n 1 "$work/layout") in
+            "(refused "*) continue ;;
+        esac
+        if [ "$(cat "$work/job" "$work/layout" | wc -c)" -gt 2000 ]; then continue; fi
+        add "$work/job" "$work/layout"
+        for k in 1 2 3; do
+            "$work/second" mutate $((seed * 11 + k)) "$work/job" "$work/layout" > "$work/mutant"
+            add "$work/job" "$work/mutant"
+        done
+        made=$((made + 1))
+    done
+done
+echo "$cases cases, $broken of them broken; $(wc -c < "$stdin") bytes in"

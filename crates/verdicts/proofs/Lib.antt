@@ -1,0 +1,2 @@
+-- Laws of what the program `check` prints.
+pub mod Lines

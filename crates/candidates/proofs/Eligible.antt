@@ -59,7 +59,7 @@ index-cases f (x ∷ xs) i none found =
 
 module _ (job : Job) (accepted : AcceptedJob job) (placed earlier : List ℕ) (is : Placed job placed earlier) (n : Net) where
   -- the nets before n all stand on an earlier track, where the one that is found does
-  all-on : allOf (λ m. not (isBefore m n) || isOn earlier m) (job .nets)
+  pub all-on : allOf (λ m. not (isBefore m n) || isOn earlier m) (job .nets)
       ≡ (eqb (beforeIn (job .nets) n) 512 || not (eqb (getD placed (beforeIn (job .nets) n) 0) 0))
   all-on =
       let test : Net → Bool = λ m. not (isBefore m n) || isOn earlier m in

@@ -1,0 +1,7 @@
+-- The laws of judging.
+pub mod Indexes
+pub mod LinedNets
+pub mod ValueTests
+pub mod Turns
+pub mod LinesAdded
+pub mod Steps

@@ -89,8 +89,7 @@ pub right-answer : (text : List ℕ) (a : Answer) → a ≡ answerOf (readJob te
 right-answer text a e =
     let n = numberOf (a .outcome) in
     let read : n ≡ 0 → readJob text ≡ accepted (jobOf (a .job)) = given-read text a n e refl in
-    let refused-as : (n ≡ 0 → ⊥) → readJob text ≡ refused (a .outcome) = given-refused text a n e refl in
-    (
+    let refused-as : (n ≡ 0 → ⊥) → readJob text ≡ refused (a .outcome) = given-refused text a n e refl in (
       e,
       record {
         faultless = λ z. read-faultless text (jobOf (a .job)) (read z);
@@ -98,5 +97,5 @@ right-answer text a e =
         job-accepted = λ z. read-accepted text (jobOf (a .job)) (read z);
         first-fault = λ h. read-refused text (a .outcome) (refused-as h);
         without-job = λ h. ap (λ (x : Answer). x .job) (e ∙ ap answerOf (refused-as h)) ∙ refused-job (a .outcome);
-      }
+      },
     )

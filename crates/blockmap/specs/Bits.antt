@@ -12,6 +12,6 @@ unfoldable pub isSet : List ℕ → ℕ → Bool
 isSet words zero = false
 isSet words (suc i) = eqb (getD words (i / 64) 0 / 2 ^ (i % 64) % 2) 1
 
--- the words are the block map of track t: of rows 1 to H the blocked ones are set, and no other
+-- the words are the block map of track t: of rows 1 to H exactly the blocked ones are set; of the bits of rows above H nothing is said
 abbrev pub MapOf : Job → ℕ → List ℕ → Type 0
 MapOf job t words = (row : ℕ) → 1 ≤ row → row ≤ job .board .rows → isSet words row ≡ blocked job t row

@@ -4,7 +4,7 @@ ghost use mathlib.Core.Bool.{_&&_, _||_, true, false};
 ghost use Prim.Native.Nat.{ℕ, _+_, _-_, _≤_};
 ghost use lib.Dec.{eqb, leb};
 ghost use lib.ListN.{length, replicate};
-ghost use Rattle.board.specs.Job.{closes};
+ghost use Rattle.board.specs.Job.{closesRow};
 ghost use Rattle.blockmap.specs.Bits.{isSet};
 ghost use Rattle.blockmap.specs.Clear.{allUnset, flagTops};
 use board::Block;
@@ -67,7 +67,7 @@ pub fn with_block(map: BlockMap, block: Block) -> BlockMap
 // The map of a track with one more block: a block of another track leaves it as it is.
 pub fn with_block_on(map: BlockMap, track: Track, block: Block) -> BlockMap
     requires { ⌜ (1 ≤ block .first .0) × (block .first .0 ≤ block .last .0) × (block .last .0 ≤ 1024) ⌝ }
-    ensures { λ r. ⌜ ((k : ℕ) → isSet (r .words) k ≡ (closes block (track .0) k || isSet (map .words) k)) ⌝ }
+    ensures { λ r. ⌜ ((k : ℕ) → isSet (r .words) k ≡ (closesRow block (track .0) k || isSet (map .words) k)) ⌝ }
 {
     if block.track.0 == track.0 {
         return with_block(map, block);

@@ -14,7 +14,7 @@ use Rattle.board.specs.declared.Board.{Board}
 use Rattle.board.specs.declared.Net.{Net}
 use Rattle.board.specs.declared.Block.{Block}
 use Rattle.board.specs.Length.{upper, lower, lengthOf}
-use Rattle.board.specs.Job.{Job, closes, blocked}
+use Rattle.board.specs.Job.{Job, closesRow, blocked}
 use Rattle.board.specs.Placement.{Placement, Clear, bottom}
 use Rattle.board.specs.Precedence.{Precedes, Eligible}
 use Rattle.board.specs.Tests.{sameNet, isOfJob, isLong, isShort, isFromOne, isOverUpper, isUnderLower, isToLast, clearRows, isClear, isOn, isBefore, isReady, isEligible}
@@ -89,8 +89,8 @@ to-last-exact board p = leb-exact _ _
 
 -- ---- it is clear of blocks
 
-pub closes-exact : (b : Block) (t row : ℕ) → closes b t row ≡ true ↔ ((b .track .0 ≡ t) × (b .first .0 ≤ row) × (row ≤ b .last .0))
-unfolding closes
+pub closes-exact : (b : Block) (t row : ℕ) → closesRow b t row ≡ true ↔ ((b .track .0 ≡ t) × (b .first .0 ≤ row) × (row ≤ b .last .0))
+unfolding closesRow
 closes-exact b t row = (
   λ h. let s = and-split _ _ h in
       let u = and-split _ _ (s .0) in
@@ -112,9 +112,9 @@ of-none f [] h = refl
 of-none f (y ∷ ys) h = rw (h y (List·Memᴰ·head refl)) (of-none f ys (λ x m. h x (List·Memᴰ·tail m)))
 
 -- a row is blocked unless no block of the job closes it
-pub blocked-exact : (job : Job) (t row : ℕ) → blocked job t row ≡ false ↔ ((b : Block) → List·Memᴰ b (job .blocks) → closes b t row ≡ false)
+pub blocked-exact : (job : Job) (t row : ℕ) → blocked job t row ≡ false ↔ ((b : Block) → List·Memᴰ b (job .blocks) → closesRow b t row ≡ false)
 unfolding blocked
-blocked-exact job t row = (none-of (λ b. closes b t row) (job .blocks), of-none (λ b. closes b t row) (job .blocks))
+blocked-exact job t row = (none-of (λ b. closesRow b t row) (job .blocks), of-none (λ b. closesRow b t row) (job .blocks))
 
 pub clear-rows : (job : Job) (t row count : ℕ) → clearRows job t row count ≡ true → (r : ℕ) → row ≤ r → r < row + count → blocked job t r ≡ false
 unfolding clearRows

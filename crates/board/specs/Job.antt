@@ -15,9 +15,9 @@ pub record Job : Type 0 where
   pub blocks : List Block
 
 -- the block closes the row of track t on layer 2
-unfoldable pub closes : Block → ℕ → ℕ → Bool
-closes b t row = eqb (b .track .0) t && leb (b .first .0) row && leb row (b .last .0)
+unfoldable pub closesRow : Block → ℕ → ℕ → Bool
+closesRow b t row = eqb (b .track .0) t && leb (b .first .0) row && leb row (b .last .0)
 
 -- a row of track t that some block closes; blocks may overlap
 unfoldable pub blocked : Job → ℕ → ℕ → Bool
-blocked job t row = anyOf (λ b. closes b t row) (job .blocks)
+blocked job t row = anyOf (λ b. closesRow b t row) (job .blocks)

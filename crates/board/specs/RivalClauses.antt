@@ -7,7 +7,7 @@ use mathlib.Core.List.{List, [], _∷_}
 use lib.Dec.{ltb}
 use Rattle.lists.specs.Lists.{anyOf, allOf, allPairs}
 use Rattle.board.specs.Length.{width, upper, lower, span, plainLength}
-use Rattle.board.specs.Job.{Job, closes, blocked}
+use Rattle.board.specs.Job.{Job, closesRow, blocked}
 use Rattle.board.specs.Placement.{Placement, bottom}
 use Rattle.board.specs.Rival.{Rival}
 use Rattle.board.specs.Tests.{sameNet, isOfJob, isLong, isShort, isFromOne, isOverUpper, isUnderLower, isToLast, clearRows, isClear, isOn, isBefore, isReady}
@@ -63,7 +63,7 @@ failing f (c ∷ cs) = cond (f c) (failing f cs) (c ∷ failing f cs)
 
 -- the clauses that a list of placements breaks, in the order above. To unfold this is to unfold all that it computes with
 unfoldable pub brokenClauses : Job → List ℕ → ℕ → List Placement → List Clause
-unfolding failing passes isOfJob sameNet isLong isShort isFromOne isOverUpper isUnderLower isToLast isClear clearRows isReady isOn isBefore isRising isApart width upper lower span plainLength closes blocked anyOf allOf allPairs
+unfolding failing passes isOfJob sameNet isLong isShort isFromOne isOverUpper isUnderLower isToLast isClear clearRows isReady isOn isBefore isRising isApart width upper lower span plainLength closesRow blocked anyOf allOf allPairs
 brokenClauses job earlier t ps = failing (passes job earlier t ps) clauses
 
 -- the placements break this clause and no other, and are no rival sequence

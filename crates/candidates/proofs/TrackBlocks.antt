@@ -13,7 +13,7 @@ use Rattle.lists.proofs.Cases.{by-test}
 use Rattle.lists.proofs.Places.{take-more, mem-take}
 use Rattle.board.specs.declared.Block.{Block}
 use Rattle.board.specs.declared.StoredJob.{StoredJob}
-use Rattle.board.specs.Job.{Job, closes, blocked}
+use Rattle.board.specs.Job.{Job, closesRow, blocked}
 use Rattle.board.specs.Stored.{jobOf, noBlock}
 use Rattle.board.specs.Accepted.{BlockInRange}
 use Rattle.blockmap.specs.Bits.{isSet}
@@ -23,7 +23,7 @@ use Rattle.candidates.proofs.Prefixes.{anyOf-more}
 
 -- the rows set are those that a block of bs closes
 abbrev pub MapFrom : List ℕ → ℕ → List Block → Type 0
-MapFrom words t bs = (row : ℕ) → isSet words row ≡ anyOf (λ b. closes b t row) bs
+MapFrom words t bs = (row : ℕ) → isSet words row ≡ anyOf (λ b. closesRow b t row) bs
 
 -- before the first block
 pub map-none : (words : List ℕ) (t : ℕ) (bs : List Block) → ((row : ℕ) → isSet words row ≡ false) → MapFrom words t (take 0 bs)
@@ -32,10 +32,10 @@ map-none words t bs h row = h row
 
 -- one more block
 pub map-more : (old words : List ℕ) (t : ℕ) (bs : List Block) (i : ℕ) (d : Block) → i < length bs → MapFrom old t (take i bs)
-    → ((row : ℕ) → isSet words row ≡ (closes (getD bs i d) t row || isSet old row)) → MapFrom words t (take (i + 1) bs)
+    → ((row : ℕ) → isSet words row ≡ (closesRow (getD bs i d) t row || isSet old row)) → MapFrom words t (take (i + 1) bs)
 map-more old words t bs i d h p q row =
-    rw (take-more bs i d h, anyOf-more (λ b. closes b t row) (take i bs) (getD bs i d))
-    (q row ∙ ap (λ r. closes (getD bs i d) t row || r) (p row))
+    rw (take-more bs i d h, anyOf-more (λ b. closesRow b t row) (take i bs) (getD bs i d))
+    (q row ∙ ap (λ r. closesRow (getD bs i d) t row || r) (p row))
 
 -- after the last
 pub map-all : (words : List ℕ) (s : StoredJob) (t i : ℕ) → i ≤ s .nblocks → s .nblocks ≤ i → MapFrom words t (take i (s .blocks))
@@ -52,8 +52,8 @@ block-range s i a l h =
     a .accepted .blocks-each (getD (s .blocks) i noBlock) (mem-take (s .blocks) (s .nblocks) i noBlock h (omega arith))
 
 -- no block on the track
-pub none-closes : (bs : List Block) (t : ℕ) → anyOf (λ b. eqb (b .track .0) t) bs ≡ false → (row : ℕ) → anyOf (λ b. closes b t row) bs ≡ false
-unfolding anyOf closes
+pub none-closes : (bs : List Block) (t : ℕ) → anyOf (λ b. eqb (b .track .0) t) bs ≡ false → (row : ℕ) → anyOf (λ b. closesRow b t row) bs ≡ false
+unfolding anyOf closesRow
 none-closes [] t h row = refl
 none-closes (b ∷ bs) t h row =
     by-test (eqb (b .track .0) t)

@@ -18,7 +18,7 @@ use Rattle.candidates.specs.declared.Candidates.{Candidates}
 use Rattle.candidates.specs.Gathered.{Gathered}
 use Rattle.choice.specs.declared.Pick.{Pick}
 use Rattle.choice.specs.TrackPlans.{noChoice, indexOf, choicesOf, trackPlanOf}
-use Rattle.choice.specs.Filled.{pickTo, fillFrom, filled}
+use Rattle.choice.specs.Filled.{pickTo, fillFrom, filledPlan}
 use Rattle.choice.proofs.RowBest.{row-pick-best}
 
 -- ---- lists
@@ -88,8 +88,8 @@ module _ (job : Job) (earlier : List ℕ) (t : ℕ) (c : Candidates) (flags : Li
         λ i. record { choice = d i; sum = s i }
     fill-below (suc i) table choice h b = fill-below i _ _ (omega arith) (row-below i table choice h b _ refl)
 
-  pub filled-plan : AcceptedJob job → Gathered job earlier t c flags → filled c flags (job .board .rows) ≡ trackPlanOf job earlier t
-  unfolding filled
+  pub filled-plan : AcceptedJob job → Gathered job earlier t c flags → filledPlan c flags (job .board .rows) ≡ trackPlanOf job earlier t
+  unfolding filledPlan
   filled-plan a g =
       let r = a .board-range .rows-range in
       fill-below g (a .numbers-rise) r (job .board .rows) (replicate 1026 0) (replicate 1024 noChoice) (omega arith) (start-below g (a .numbers-rise) r)

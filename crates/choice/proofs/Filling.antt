@@ -13,7 +13,7 @@ use Rattle.choice.specs.declared.Pick.{Pick}
 use Rattle.choice.specs.declared.Band.{Band}
 use Rattle.choice.specs.declared.TrackPlan.{TrackPlan}
 use Rattle.choice.specs.TrackPlans.{noChoice}
-use Rattle.choice.specs.Filled.{lent, sumAt, pickTo, bandTo, pickAmong, fillFrom, filled, InBounds, PickInBounds, RowInBounds}
+use Rattle.choice.specs.Filled.{lent, sumAt, pickTo, bandTo, pickAmong, fillFrom, filledPlan, InBounds, PickInBounds, RowInBounds}
 use Rattle.choice.proofs.Picking.{pick-low}
 use Rattle.choice.proofs.Bands.{BandShape, band-shape, among-lent, band-pick}
 
@@ -23,7 +23,7 @@ pub record RowsLeft (c : Candidates) (flags : List ℕ) (rows : ℕ) (best choic
   pub best-length : length best ≡ 1026
   pub choice-length : length choice ≡ 1024
   pub low : (r : ℕ) → j < r → r ≤ rows + 1 → getD best r 0 ≤ 4096 * (rows + 1 - r)
-  pub same : fillFrom c flags j best choice ≡ filled c flags rows
+  pub same : fillFrom c flags j best choice ≡ filledPlan c flags rows
 
 -- `band` has the candidates with a top in the rows from lo to some row, and row j is one of these rows
 pub record BandAt (c : Candidates) (band : Band) (lo j : ℕ) : Type 0 where
@@ -49,7 +49,7 @@ module _ (c : Candidates) (flags : List ℕ) (rows : ℕ) (b : InBounds c flags 
   Now best choice j = RowsLeft c flags rows best choice j
 
   pub rows-left-start : Now (replicate 1026 0) (replicate 1024 noChoice) rows
-  unfolding filled
+  unfolding filledPlan
   rows-left-start =
       record {
         in-range = omega arith;
@@ -122,7 +122,7 @@ module _ (c : Candidates) (flags : List ℕ) (rows : ℕ) (b : InBounds c flags 
       rw e′ (row-again best choice i p g e)
 
   pub rows-left-end : (best choice : List ℕ) (j : ℕ) → j ≤ 0 → Now best choice j →
-      _≡_ {A = TrackPlan} (record { choice = choice; sum = getD best 1 0 }) (filled c flags rows)
+      _≡_ {A = TrackPlan} (record { choice = choice; sum = getD best 1 0 }) (filledPlan c flags rows)
   unfolding fillFrom
   rows-left-end best choice zero h g = g .same
   rows-left-end best choice (suc j) h g = absurd (omega arith)

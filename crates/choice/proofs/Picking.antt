@@ -58,15 +58,15 @@ module _ (c : Candidates) (flags best : List ℕ) (j i : ℕ) where
 -- the pick over a list with one listed candidate more, as the loop has it: `can` is what `can_stand` answered, p the pick before and r
 -- the one after
 module _ (c : Candidates) (flags best : List ℕ) (j : ℕ) (index : List ℕ) (k : ℕ) where
-  abbrev Next : ℕ
-  Next = getD index k 0
+  abbrev NextIndex : ℕ
+  NextIndex = getD index k 0
 
-  pub pick-taken : {can : Bool} {p q r : Pick} → can ≡ stands (c .first) (c .last) flags j Next → p ≡ pickAmong c flags best j index k → can ≡ true → r ≡ q →
-      q ≡ better p (sumAt c best j Next) (getD (c .net) Next 0) → r ≡ pickAmong c flags best j index (k + 1)
+  pub pick-taken : {can : Bool} {p q r : Pick} → can ≡ stands (c .first) (c .last) flags j NextIndex → p ≡ pickAmong c flags best j index k → can ≡ true → r ≡ q →
+      q ≡ better p (sumAt c best j NextIndex) (getD (c .net) NextIndex 0) → r ≡ pickAmong c flags best j index (k + 1)
   unfolding pickAmong
   pick-taken a h t f e = rw (add-one k, sym a ∙ t, ← h) (f ∙ e)
 
-  pub pick-passed : {can : Bool} {p r : Pick} → can ≡ stands (c .first) (c .last) flags j Next → p ≡ pickAmong c flags best j index k → can ≡ false → r ≡ p →
+  pub pick-passed : {can : Bool} {p r : Pick} → can ≡ stands (c .first) (c .last) flags j NextIndex → p ≡ pickAmong c flags best j index k → can ≡ false → r ≡ p →
       r ≡ pickAmong c flags best j index (k + 1)
   unfolding pickAmong
   pick-passed a h t f = rw (add-one k, sym a ∙ t) (f ∙ h)

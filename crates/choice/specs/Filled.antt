@@ -59,8 +59,8 @@ fillFrom c flags (suc j) best choice =
     let p = pickTo c flags best (suc j) (c .count) in fillFrom c flags j (set best (suc j) (p .sum)) (set choice j (p .at))
 
 -- all rows filled, from the last up; best(H + 1) is 0
-unfoldable pub filled : Candidates → List ℕ → ℕ → TrackPlan
-filled c flags rows = fillFrom c flags rows (replicate 1026 0) (replicate 1024 noChoice)
+unfoldable pub filledPlan : Candidates → List ℕ → ℕ → TrackPlan
+filledPlan c flags rows = fillFrom c flags rows (replicate 1026 0) (replicate 1024 noChoice)
 
 -- a candidate's rows lie within the board wherever its top is, and it is worth at most 4,096
 pub record SlotInBounds (c : Candidates) (rows i : ℕ) : Type 0 where

@@ -2,7 +2,7 @@
 ghost use mathlib.Core.Path.{_≡_};
 ghost use Prim.Native.Nat.{_+_, _*_, _≤_, _<_};
 ghost use lib.ListN.{length};
-ghost use Rattle.choice.specs.Filled.{lent, stands, better, inBand, bandTo, pickAmong, filled, InBounds, RowInBounds};
+ghost use Rattle.choice.specs.Filled.{lent, stands, better, inBand, bandTo, pickAmong, filledPlan, InBounds, RowInBounds};
 use board::Row;
 use candidates::Candidates;
 
@@ -134,7 +134,7 @@ fn row_pick<'a>(
 // rows, the candidates that have a top in it are listed, so that no row looks at the others; `start` is the first row of that band.
 pub fn fill(c: Candidates, flags: &[u8], rows: usize) -> TrackPlan
     requires { ⌜ InBounds c (now flags) rows ⌝ }
-    ensures { λ r. ⌜ r ≡ filled c (now (flags .entry)) rows ⌝ }
+    ensures { λ r. ⌜ r ≡ filledPlan c (now (flags .entry)) rows ⌝ }
 {
     let mut best = [0usize; 1026];
     let mut choice = [512usize; 1024];

@@ -5,7 +5,7 @@ use mathlib.Core.Path.{_≡_, refl}
 use mathlib.Core.List.{List}
 use Rattle.lists.specs.Lists.{anyOf, allOf, firstOf}
 use Rattle.board.specs.Length.{width, upper, lower, span, plainLength, shortest, needed, worth}
-use Rattle.board.specs.Job.{Job, closes, blocked}
+use Rattle.board.specs.Job.{Job, closesRow, blocked}
 use Rattle.board.specs.Tests.{isLong, isShort, isFromOne, isOverUpper, isUnderLower, isToLast, clearRows, isClear, isOn, isBefore, isReady}
 use Rattle.board.specs.WorkedBoard.{workedJob}
 use Rattle.text.specs.Bytes.{bytes, same, joined, pieces, nonEmpty}
@@ -23,7 +23,7 @@ use Rattle.drc.specs.LongNet.{longJob}
 
 -- the verdict on a text. To unfold this is to unfold all that it computes with
 unfoldable pub computed : Job → List ℕ → Verdict
-unfolding judge judgeFrom atTextEnd keepsRules isSoundLoose isUnlined isSoundWire isSoundPlace isBelow isTrueSum isInPlace isOpening isInTurn endsTrack noneLoose coversOf trackDrawn drawnBy drawnFrom drawnOf isOnBoard samePoints withLine linesRead readEach isEnded worthOf worthBy netNumbered placementOf placementFrom lastIn firstIn pointsOn corners farRow nearRow distinctFrom samePoint wireColumn viaColumn readLine smallLine smallPoints roughLine lineFrom pointsOf wordsIn lineText pointsThen valueFrom digits digitsIn nonEmpty pieces joined same isReady isBefore isOn isClear clearRows isToLast isUnderLower isOverUpper isFromOne isShort isLong blocked closes worth needed shortest plainLength span upper lower width firstOf allOf anyOf
+unfolding judge judgeFrom atTextEnd keepsRules isSoundLoose isUnlined isSoundWire isSoundPlace isBelow isTrueSum isInPlace isOpening isInTurn endsTrack noneLoose coversOf trackDrawn drawnBy drawnFrom drawnOf isOnBoard samePoints withLine linesRead readEach isEnded worthOf worthBy netNumbered placementOf placementFrom lastIn firstIn pointsOn corners farRow nearRow distinctFrom samePoint wireColumn viaColumn readLine smallLine smallPoints roughLine lineFrom pointsOf wordsIn lineText pointsThen valueFrom digits digitsIn nonEmpty pieces joined same isReady isBefore isOn isClear clearRows isToLast isUnderLower isOverUpper isFromOne isShort isLong blocked closesRow worth needed shortest plainLength span upper lower width firstOf allOf anyOf
 computed job text = judge job text
 
 -- the same of the pass

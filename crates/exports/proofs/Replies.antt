@@ -4,23 +4,24 @@ use Prim.Native.Nat.{ℕ}
 use mathlib.Core.Path.{_≡_, ap, _∙_}
 use mathlib.Core.List.{List}
 use lib.ListN.{length}
-use Rattle.jobfile.specs.Read.{Read}
+use Rattle.jobfile.specs.Read.{readJob}
 use Rattle.planning.specs.Plan.{planOf}
 use Rattle.sound.specs.Sound.{Sound}
 use Rattle.routing.specs.Promises.{ShortestText, UnbeatenText}
 use Rattle.router.specs.declared.RouteAnswer.{RouteAnswer}
-use Rattle.router.specs.Answers.{routeValues, routeAnswer, bufferAfter, OfWritten}
+use Rattle.router.specs.Answers.{routeValues, routeAnswer, RightFor, bufferAfter, OfWritten}
 use Rattle.router.proofs.Answering.{Promised}
 use Rattle.exports.specs.Exported.{RepliesWith}
 
-pub reply-given : (x : Read) (before : List ℕ) (a : RouteAnswer) (after : List ℕ) → Promised x before a after → (n l b : ℕ) →
+pub reply-given : (job before : List ℕ) (a : RouteAnswer) (after : List ℕ) → Promised job before a after → (n l b : ℕ) →
     n ≡ routeValues a .number → l ≡ routeValues a .line → b ≡ routeValues a .bytes →
-    RepliesWith (routeAnswer x (length before)) n l b ×
-    ((after ≡ bufferAfter x before) ×
-    (OfWritten (λ j text. ShortestText j (planOf j) text) x (routeAnswer x (length before)) after ×
-    (OfWritten (λ j text. Sound j text) x (routeAnswer x (length before)) after ×
-    OfWritten (λ j text. UnbeatenText j text) x (routeAnswer x (length before)) after)))
-reply-given x before a after p n l b e f g =
+    RepliesWith (routeAnswer (readJob job) (length before)) n l b ×
+    (RightFor job (routeAnswer (readJob job) (length before)) ×
+    ((after ≡ bufferAfter (readJob job) before) ×
+    (OfWritten (λ j text. ShortestText j (planOf j) text) (readJob job) (routeAnswer (readJob job) (length before)) after ×
+    (OfWritten (λ j text. Sound j text) (readJob job) (routeAnswer (readJob job) (length before)) after ×
+    OfWritten (λ j text. UnbeatenText j text) (readJob job) (routeAnswer (readJob job) (length before)) after))))
+reply-given job before a after p n l b e f g =
     let q = p .0 in (
       record {
         number-is = e ∙ ap (λ (y : RouteAnswer). routeValues y .number) q;

@@ -6,7 +6,7 @@ ghost use lib.ListN.{length};
 ghost use Rattle.planning.specs.Plan.{planOf};
 ghost use Rattle.sound.specs.Sound.{Sound};
 ghost use Rattle.routing.specs.Promises.{ShortestText, UnbeatenText};
-ghost use Rattle.router.specs.Answers.{routeAnswer, bufferAfter, OfWritten};
+ghost use Rattle.router.specs.Answers.{routeAnswer, RightFor, bufferAfter, OfWritten};
 ghost use Rattle.exports.specs.Exported.{addedUp, refusalOf, planSum, RepliesWith};
 
 // Routes a job into a buffer, and answers in document 01's numbers: the number of the refusal, 0 where the layout is written; through
@@ -19,6 +19,7 @@ pub extern "C" fn hankuribo_route(
     bytes: &mut usize,
 ) -> usize
     ensures { λ r. ⌜ RepliesWith (routeAnswer (readJob (now (job .entry))) (length (now (out .entry)))) r (now (line .exit)) (now (bytes .exit)) ⌝ }
+    ensures { λ _. ⌜ RightFor (now (job .entry)) (routeAnswer (readJob (now (job .entry))) (length (now (out .entry)))) ⌝ }
     ensures { λ _. ⌜ now (out .exit) ≡ bufferAfter (readJob (now (job .entry))) (now (out .entry)) ⌝ }
     ensures { λ _. ⌜ OfWritten (λ j text. ShortestText j (planOf j) text) (readJob (now (job .entry))) (routeAnswer (readJob (now (job .entry))) (length (now (out .entry)))) (now (out .exit)) ⌝ }
     ensures { λ _. ⌜ OfWritten (λ j text. Sound j text) (readJob (now (job .entry))) (routeAnswer (readJob (now (job .entry))) (length (now (out .entry)))) (now (out .exit)) ⌝ }

@@ -69,8 +69,8 @@ module _ (j : LinesJudged) where
 -- ---- a wire drawn
 
 module _ (board : Board) (words stands : List ℕ) (found : NetFound) (j : LinesJudged) (top : ℕ) (s : Shape) where
-  abbrev Next : Bool
-  Next = isNextAt board words stands found j top s
+  abbrev NextWire : Bool
+  NextWire = isNextAt board words stands found j top s
 
   abbrev allowed : Bool
   allowed = isAllowed board (found .net) s
@@ -81,23 +81,23 @@ module _ (board : Board) (words stands : List ℕ) (found : NetFound) (j : Lines
   abbrev ready : Bool
   ready = readyAt (found .before) stands (j .track)
 
-  pub not-allowed : allowed ≡ false → Next ≡ false
+  pub not-allowed : allowed ≡ false → NextWire ≡ false
   unfolding isNextAt
   not-allowed a = rw a
 
-  pub not-clear : allowed ≡ true → clear ≡ false → Next ≡ false
+  pub not-clear : allowed ≡ true → clear ≡ false → NextWire ≡ false
   unfolding isNextAt
   not-clear a b = rw (a, b)
 
-  pub not-new : allowed ≡ true → clear ≡ true → (getD stands (found .index) 0 ≡ 0 → ⊥) → Next ≡ false
+  pub not-new : allowed ≡ true → clear ≡ true → (getD stands (found .index) 0 ≡ 0 → ⊥) → NextWire ≡ false
   unfolding isNextAt
   not-new a b d = rw (a, b, ne-eqb (getD stands (found .index) 0) 0 d)
 
-  pub not-ready : allowed ≡ true → clear ≡ true → getD stands (found .index) 0 ≡ 0 → ready ≡ false → Next ≡ false
+  pub not-ready : allowed ≡ true → clear ≡ true → getD stands (found .index) 0 ≡ 0 → ready ≡ false → NextWire ≡ false
   unfolding isNextAt
   not-ready a b e r = rw (a, b, eq-eqb (getD stands (found .index) 0) 0 e, r)
 
-  pub all-but-order : allowed ≡ true → clear ≡ true → getD stands (found .index) 0 ≡ 0 → ready ≡ true → Next ≡ ltb (j .lowest) top
+  pub all-but-order : allowed ≡ true → clear ≡ true → getD stands (found .index) 0 ≡ 0 → ready ≡ true → NextWire ≡ ltb (j .lowest) top
   unfolding isNextAt
   all-but-order a b e r = rw (a, b, eq-eqb (getD stands (found .index) 0) 0 e, r)
 

@@ -8,7 +8,7 @@ use Rattle.lists.specs.Lists.{anyOf, allOf, firstOf}
 use Rattle.board.specs.declared.Net.{Net}
 use Rattle.board.specs.declared.Shape.the-variants.{Plain, Stretched}
 use Rattle.board.specs.Length.{width, upper, lower, span, plainLength, shortest, needed, worth}
-use Rattle.board.specs.Job.{Job, closes, blocked}
+use Rattle.board.specs.Job.{Job, closesRow, blocked}
 use Rattle.board.specs.Placement.{placementAt, covered, firstTop, lastTop}
 use Rattle.board.specs.Unbeaten.{FilledTrack, emptyTrack, numbersOn}
 use Rattle.board.specs.Tests.{clearRows, isOn, isBefore, isReady, isEligible}
@@ -23,12 +23,12 @@ use Rattle.planning.specs.Loose.{without, looseOf}
 
 -- the plan of a job. To unfold this is to unfold all that it computes with
 unfoldable planned : Job → List FilledTrack
-unfolding planOf planFrom filledTrack wiresOf walkFrom walk choice reaches best bestLast table bestAt fitsAt sumWith firstTop lastTop covered isEligible isReady isBefore isOn clearRows blocked closes worth needed shortest plainLength span upper lower width anyOf allOf firstOf
+unfolding planOf planFrom filledTrack wiresOf walkFrom walk choice reaches best bestLast table bestAt fitsAt sumWith firstTop lastTop covered isEligible isReady isBefore isOn clearRows blocked closesRow worth needed shortest plainLength span upper lower width anyOf allOf firstOf
 planned job = planOf job
 
 -- the nets that the plan of a job leaves loose, in the same way
 unfoldable left : Job → List Net
-unfolding looseOf without numbersOn planOf planFrom filledTrack wiresOf walkFrom walk choice reaches best bestLast table bestAt fitsAt sumWith firstTop lastTop covered isEligible isReady isBefore isOn clearRows blocked closes worth needed shortest plainLength span upper lower width anyOf allOf firstOf
+unfolding looseOf without numbersOn planOf planFrom filledTrack wiresOf walkFrom walk choice reaches best bestLast table bestAt fitsAt sumWith firstTop lastTop covered isEligible isReady isBefore isOn clearRows blocked closesRow worth needed shortest plainLength span upper lower width anyOf allOf firstOf
 left job = looseOf job (planOf job)
 
 -- track 1: nets 1, 2 (stretched over row 5) and 3, sum 9; track 2: net 4, sum 2

@@ -164,7 +164,7 @@ fn take_block(job: StoredJob, block: Block, line: usize) -> LinesTaken
 }
 
 // Whether a line of this form may stand at a stage: refusal 2.
-fn may_stand(stage: usize, form: Form) -> bool
+fn form_stands(stage: usize, form: Form) -> bool
     ensures { λ r. ⌜ r ≡ mayStand stage form ⌝ }
 {
     match form {
@@ -184,7 +184,7 @@ fn take_form(stage: usize, job: StoredJob, form: Form, line: usize) -> LinesTake
     requires { ⌜ Held stage job ⌝ }
     ensures { λ r. ⌜ r ≡ linesTakenOf (step line (stateOf stage job) form) ⌝ }
 {
-    if !may_stand(stage, form) {
+    if !form_stands(stage, form) {
         return line_refused(Outcome::NotOfForm(line));
     }
     match form {

@@ -12,7 +12,9 @@ use Rattle.board.specs.Accepted.{AcceptedJob}
 use Rattle.board.specs.Stored.{jobOf, AcceptedStored}
 use Rattle.text.specs.Written.{Written, over}
 use Rattle.jobfile.specs.declared.Outcome.{Outcome}
-use Rattle.jobfile.specs.Read.{Read, accepted, refused}
+use Rattle.jobfile.specs.Read.{accepted, refused, readJob}
+use Rattle.jobfile.specs.Faults.{Fault}
+use Rattle.jobfile.proofs.Refusals.{read-refused, read-faultless}
 use Rattle.planning.specs.Plan.{planOf}
 use Rattle.sound.specs.Sound.{Sound}
 use Rattle.routing.specs.Promises.{ShortestText, UnbeatenText}
@@ -25,39 +27,44 @@ use Rattle.drawer.specs.PlanText.{planText, DrawablePlan}
 use Rattle.drawer.proofs.PlanDrawable.{plan-is-route, plan-drawable}
 use Rattle.router.specs.declared.RouteAnswer.{RouteAnswer}
 use Rattle.router.specs.declared.RouteAnswer.the-variants.{Refused, TooSmall, Routed}
-use Rattle.router.specs.Answers.{routeValues, documentValues, routeAnswer, bufferAfter, OfWritten}
+use Rattle.router.specs.Answers.{routeValues, documentValues, routeAnswer, RightFor, bufferAfter, OfWritten}
 
 -- all that route promises of its answer and of the buffer afterwards
-abbrev pub Promised : Read → List ℕ → RouteAnswer → List ℕ → Type 0
-Promised x before r after =
-    (r ≡ routeAnswer x (length before)) ×
-    ((routeValues r ≡ documentValues x (length before)) ×
-    ((after ≡ bufferAfter x before) ×
-    (OfWritten (λ j text. ShortestText j (planOf j) text) x r after ×
-    (OfWritten (λ j text. Sound j text) x r after ×
-    OfWritten (λ j text. UnbeatenText j text) x r after))))
+abbrev pub Promised : List ℕ → List ℕ → RouteAnswer → List ℕ → Type 0
+Promised job before r after =
+    (r ≡ routeAnswer (readJob job) (length before)) ×
+    ((routeValues r ≡ documentValues (readJob job) (length before)) ×
+    (RightFor job r ×
+    ((after ≡ bufferAfter (readJob job) before) ×
+    (OfWritten (λ j text. ShortestText j (planOf j) text) (readJob job) r after ×
+    (OfWritten (λ j text. Sound j text) (readJob job) r after ×
+    OfWritten (λ j text. UnbeatenText j text) (readJob job) r after)))))
 
-pub refused-promised : (x : Read) (o : Outcome) (before : List ℕ) → x ≡ refused o → Promised x before (Refused o) before
+pub refused-promised : (job : List ℕ) (o : Outcome) (before : List ℕ) → readJob job ≡ refused o → Promised job before (Refused o) before
 unfolding routeAnswer documentValues bufferAfter
-refused-promised x o before e = rw e (refl, (refl, (refl, (tt, (tt, tt)))))
+refused-promised job o before e = let f = read-refused job o e in rw e (refl, (refl, (f, (refl, (tt, (tt, tt))))))
 
 -- the text at the start of what it stands before
 taken : (text s : List ℕ) → take (length text) (text ++ s) ≡ text
 taken [] s = refl
 taken (b ∷ text) s = ap (λ l. b ∷ l) (taken text s)
 
-module _ (x : Read) (job : Job) (e : x ≡ accepted job) (a : AcceptedJob job) (before : List ℕ) where
-  pub small-promised : (n : ℕ) → n ≡ length (routeText job) → length before < n → Promised x before (TooSmall n) before
+module _ (text : List ℕ) (job : Job) (e : readJob text ≡ accepted job) (a : AcceptedJob job) (before : List ℕ) where
+  -- the text has no fault, and the layout is short
+  right : ((o : Outcome) → Fault text o → ⊥) × (length (routeText job) ≤ 64000)
+  right = (read-faultless text job e, route-length job a)
+
+  pub small-promised : (n : ℕ) → n ≡ length (routeText job) → length before < n → Promised text before (TooSmall n) before
   unfolding routeAnswer documentValues bufferAfter
   small-promised n w l =
-      rw (e, w, lt-leb (length (routeText job)) (length before) (omega arith)) (refl, (refl, (refl, (tt, (tt, tt)))))
+      rw (e, w, lt-leb (length (routeText job)) (length before) (omega arith)) (refl, (refl, (right, (refl, (tt, (tt, tt))))))
 
-  pub routed-promised : (n : ℕ) (after : List ℕ) → Written (routeText job) before after n → length (routeText job) ≤ length before → Promised x before (Routed n) after
+  pub routed-promised : (n : ℕ) (after : List ℕ) → Written (routeText job) before after n → length (routeText job) ≤ length before → Promised text before (Routed n) after
   unfolding routeAnswer documentValues bufferAfter
   routed-promised n after w l =
       let t = taken (routeText job) (drop (length (routeText job)) before) in
       rw (e, w .used, w .bytes, le-leb (length (routeText job)) (length before) l, t)
-      (refl, (refl, (refl, (route-drawn job a, (route-sound job a, route-unbeaten job a)))))
+      (refl, (refl, (right, (refl, (route-drawn job a, (route-sound job a, route-unbeaten job a))))))
 
 -- the plan of an accepted job can be drawn, its text is the one that route writes, and that is short
 module _ (stored : StoredJob) (a : AcceptedStored stored) (plan : JobPlan) (p : plan ≡ jobPlanOf (jobOf stored)) where

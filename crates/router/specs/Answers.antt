@@ -1,5 +1,5 @@
 -- Document 01, "Operations", route: its answer, the buffer afterwards, and the document's number and values of each answer.
-use Prim.Native.Nat.{ℕ}
+use Prim.Native.Nat.{ℕ, _≤_}
 use mathlib.Core.Bool.{cond}
 use mathlib.Core.List.{List}
 use lib.Dec.{leb}
@@ -7,7 +7,9 @@ use lib.ListN.{length, take}
 use Rattle.board.specs.Job.{Job}
 use Rattle.text.specs.Written.{over}
 use Rattle.jobfile.specs.Read.{Read, accepted, refused}
+use Rattle.jobfile.specs.declared.Outcome.{Outcome}
 use Rattle.jobfile.specs.Answers.{outcomeValues}
+use Rattle.jobfile.specs.Faults.{Fault, FirstFault}
 use Rattle.routing.specs.Route.{routeText}
 use Rattle.router.specs.declared.RouteAnswer.{RouteAnswer}
 use Rattle.router.specs.declared.RouteAnswer.the-variants.{Refused, TooSmall, Routed}
@@ -41,6 +43,13 @@ routeAnswer (accepted job) room = let n = length (routeText job) in cond (leb n 
 unfoldable pub bufferAfter : Read → List ℕ → List ℕ
 bufferAfter (refused o) before = before
 bufferAfter (accepted job) before = let text = routeText job in cond (leb (length text) (length before)) (over text before) before
+
+-- the answer is for the faults of the job file: a refusal of read's names the first fault; any other answer is for a text without a fault, and
+-- its length, written or needed, is at most 64,000
+abbrev pub RightFor : List ℕ → RouteAnswer → Type 0
+RightFor text (Refused o) = FirstFault text o
+RightFor text (TooSmall n) = ((o : Outcome) → Fault text o → ⊥) × (n ≤ 64000)
+RightFor text (Routed n) = ((o : Outcome) → Fault text o → ⊥) × (n ≤ 64000)
 
 -- P holds of the job and of the text written: where the job file is accepted and the answer is a length, the first bytes of the buffer,
 -- as many as the answer says

@@ -6,7 +6,7 @@ ghost use Rattle.jobfile.specs.Read.{readJob};
 ghost use Rattle.planning.specs.Plan.{planOf};
 ghost use Rattle.sound.specs.Sound.{Sound};
 ghost use Rattle.routing.specs.Promises.{ShortestText, UnbeatenText};
-ghost use Rattle.router.specs.Answers.{routeValues, documentValues, routeAnswer, bufferAfter, OfWritten};
+ghost use Rattle.router.specs.Answers.{routeValues, documentValues, routeAnswer, RightFor, bufferAfter, OfWritten};
 
 // The answer of route.
 pub enum RouteAnswer {
@@ -56,6 +56,7 @@ pub fn answer_bytes(answer: RouteAnswer) -> usize
 pub fn route(job: &[u8], out: &mut [u8]) -> RouteAnswer
     ensures { λ r. ⌜ r ≡ routeAnswer (readJob (now (job .entry))) (length (now (out .entry))) ⌝ }
     ensures { λ r. ⌜ routeValues r ≡ documentValues (readJob (now (job .entry))) (length (now (out .entry))) ⌝ }
+    ensures { λ r. ⌜ RightFor (now (job .entry)) r ⌝ }
     ensures { λ r. ⌜ now (out .exit) ≡ bufferAfter (readJob (now (job .entry))) (now (out .entry)) ⌝ }
     ensures { λ r. ⌜ OfWritten (λ j text. ShortestText j (planOf j) text) (readJob (now (job .entry))) r (now (out .exit)) ⌝ }
     ensures { λ r. ⌜ OfWritten (λ j text. Sound j text) (readJob (now (job .entry))) r (now (out .exit)) ⌝ }

@@ -59,7 +59,7 @@ drawn-optimal : (job : Job) → EachPair (λ a b. a .number < b .number) (job .n
 drawn-optimal job rise earlier t tp o =
     let of-job : (ps : List Placement) → Rival job earlier t ps → Each (λ p. List·Memᴰ (p .net) (job .nets)) ps = λ ps r. Each-map ps (λ p w. w .of-job) (r .placeable) in
     record {
-      number = refl;
+      track-is = refl;
       most = λ ws r.
           let sum : wiresSum job ws ≡ rivalSum (job .board) (r .places) =
           ap (wiresSum job) (r .drawn) ∙ wires-sum-of job rise t (r .places) (of-job (r .places) (r .rival)) in
@@ -147,6 +147,7 @@ module _ (job : Job) (a : AcceptedJob job) where
         layout = routeLayout job;
         rendered = refl;
         read = route-read;
+        count = drawn-length job 1 (planOf job) ∙ plan-unbeaten job a .count;
         planned = refl;
         wires-shortest = route-shortest;
         bytes-most = route-length;

@@ -4,7 +4,7 @@ use mathlib.Core.Path.{_≡_, refl, ap, _∙_}
 use mathlib.Core.List.{List, [], _∷_}
 use Rattle.lists.specs.Lists.{anyOf, allOf, firstOf}
 use Rattle.board.specs.Length.{width, upper, lower, span, plainLength, shortest, needed, worth}
-use Rattle.board.specs.Job.{Job, closes, blocked}
+use Rattle.board.specs.Job.{Job, closesRow, blocked}
 use Rattle.board.specs.Placement.{covered, firstTop, lastTop}
 use Rattle.board.specs.Unbeaten.{numbersOn}
 use Rattle.board.specs.Tests.{clearRows, isOn, isBefore, isReady, isEligible}
@@ -23,7 +23,7 @@ use Rattle.routing.specs.Route.{routeLayout, routeText}
 
 -- the text of a job. To unfold this is to unfold all that it computes with
 unfoldable pub computedText : Job → List ℕ
-unfolding routeText routeLayout drawnTracks layoutText layoutLines linesText tracksThen wiresThen looseThen lineText pointsThen digits digitsIn wireOf pointsOn corners distinctFrom samePoint nearRow farRow viaColumn wireColumn looseOf without numbersOn planOf planFrom filledTrack wiresOf walkFrom walk choice reaches best bestLast table bestAt fitsAt sumWith firstTop lastTop covered isEligible isReady isBefore isOn clearRows blocked closes worth needed shortest plainLength span upper lower width anyOf allOf firstOf
+unfolding routeText routeLayout drawnTracks layoutText layoutLines linesText tracksThen wiresThen looseThen lineText pointsThen digits digitsIn wireOf pointsOn corners distinctFrom samePoint nearRow farRow viaColumn wireColumn looseOf without numbersOn planOf planFrom filledTrack wiresOf walkFrom walk choice reaches best bestLast table bestAt fitsAt sumWith firstTop lastTop covered isEligible isReady isBefore isOn clearRows blocked closesRow worth needed shortest plainLength span upper lower width anyOf allOf firstOf
 computedText job = routeText job
 
 pub worked-text : routeText workedJob ≡ bytes

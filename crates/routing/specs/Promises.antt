@@ -36,15 +36,17 @@ pub record ShortestText (job : Job) (plan : List FilledTrack) (text : List ℕ) 
   pub layout : Layout
   pub rendered : text ≡ layoutText layout
   pub read : readLayout text ≡ some layout
+  pub count : length (layout .tracks) ≡ job .board .tracks
   pub planned : layout .tracks ≡ drawnTracks (job .board) 1 plan
   pub wires-shortest : (i : ℕ) → i < job .board .tracks → Each (ShortestWire job (suc i)) (getD (layout .tracks) i noTrack .wires)
   pub bytes-most : length text ≤ 64000
 
 -- Demand 3
 
--- no rival sequence of wires has a larger sum than the number of the track line, and its wires are one with that sum
+-- the line is that of track t; no rival sequence of wires has a larger sum than the one that it prints; its wires are a rival sequence, and
+-- their sum is that one
 pub record OptimalTrack (job : Job) (earlier : List ℕ) (t : ℕ) (tr : DrawnTrack) : Type 0 where
-  pub number : tr .track ≡ t
+  pub track-is : tr .track ≡ t
   pub most : (ws : List Wire) → RivalWires job earlier t ws → wiresSum job ws ≤ tr .sum
   pub rival : RivalWires job earlier t (tr .wires)
   pub sum-is : wiresSum job (tr .wires) ≡ tr .sum

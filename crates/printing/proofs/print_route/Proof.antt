@@ -28,7 +28,7 @@ returns : tie.Need-returns
 returns c =
     let n = c .before .before in
     let r = n .before .before in
-    layout-printed _ (length-is r) _ _ _ _ (r .route .ensures .0) (r .route .ensures .1 .1 .0) (n .answer-number .ensures) (c .before .if1 .taken) _ (c .answer-bytes .ensures)
+    layout-printed _ (length-is r) _ _ _ _ (r .route .ensures .0) (r .route .ensures .1 .1 .1 .0) (n .answer-number .ensures) (c .before .if1 .taken) _ (c .answer-bytes .ensures)
 
 answer-line-requires : tie.Need-answer-line-requires
 answer-line-requires c κs = search needs
@@ -41,7 +41,7 @@ put-refusal-requires c κs =
     let l = c .before in
     let n = l .before .before in
     let r = n .before .before in
-    omega (arith, refusal-room _ (length-is r) _ _ _ _ (r .route .ensures .0) (r .route .ensures .1 .1 .0) (n .answer-number .ensures) (l .before .if1 .left) _ (l .answer-line .ensures))
+    omega (arith, refusal-room _ (length-is r) _ _ _ _ (r .route .ensures .0) (r .route .ensures .1 .1 .1 .0) (n .answer-number .ensures) (l .before .if1 .left) _ (l .answer-line .ensures))
 
 returns-2 : tie.Need-returns-2
 returns-2 c =
@@ -49,7 +49,7 @@ returns-2 c =
     let l = w .before .before in
     let n = l .before .before in
     let r = n .before .before in
-    refusal-printed _ (length-is r) _ _ _ _ (r .route .ensures .0) (r .route .ensures .1 .1 .0) (n .answer-number .ensures) (l .before .if1 .left) _ (l .answer-line .ensures) (w .put-refusal .ensures)
+    refusal-printed _ (length-is r) _ _ _ _ (r .route .ensures .0) (r .route .ensures .1 .1 .1 .0) (n .answer-number .ensures) (l .before .if1 .left) _ (l .answer-line .ensures) (w .put-refusal .ensures)
 
 pub print-route-spec : {M : Type 1} → statement M
 print-route-spec =

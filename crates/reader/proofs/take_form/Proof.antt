@@ -8,17 +8,17 @@ use borrow.Author.Needs.{needs}
 use Rattle.reader.proofs.take_form.Statement.{statement}
 use Rattle.reader.proofs.take_form.Tie as tie
 
-may-stand-requires : tie.Need-may-stand-requires
-may-stand-requires c κs = search needs
+form-stands-requires : tie.Need-form-stands-requires
+form-stands-requires c κs = search needs
 
 line-refused-requires : tie.Need-line-refused-requires
 line-refused-requires c κs = search needs
 
 returns : tie.Need-returns
-returns c = c .line-refused .ensures ∙ ap linesTakenOf (wrong-place _ _ _ _ (sym (c .before .before .may-stand .ensures) ∙ not-true _ (c .before .if1 .taken)))
+returns c = c .line-refused .ensures ∙ ap linesTakenOf (wrong-place _ _ _ _ (sym (c .before .before .form-stands .ensures) ∙ not-true _ (c .before .if1 .taken)))
 
 in-place : (c : tie.Else1) → mayStand (c .before .before .args .stage) (c .before .before .args .form) ≡ true
-in-place c = sym (c .before .may-stand .ensures) ∙ not-false _ (c .if1 .left)
+in-place c = sym (c .before .form-stands .ensures) ∙ not-false _ (c .if1 .left)
 
 enum-told : tie.Need-enum-told
 enum-told c = search needs
@@ -96,7 +96,7 @@ pub take-form-spec : {M : Type 1} → statement M
 take-form-spec =
     tie.close
     (tie.spec
-    may-stand-requires
+    form-stands-requires
     line-refused-requires
     returns
     enum-told

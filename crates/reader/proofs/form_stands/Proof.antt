@@ -1,9 +1,9 @@
--- `reader::may_stand` meets its contract: one case for each form. Assumes nothing.
+-- `reader::form_stands` meets its contract: one case for each form. Assumes nothing.
 use mathlib.Core.Path.{sym, ap}
 use Rattle.reader.specs.LinesTaken.{mayStand}
 use borrow.Author.Needs.{needs}
-use Rattle.reader.proofs.may_stand.Statement.{statement}
-use Rattle.reader.proofs.may_stand.Tie as tie
+use Rattle.reader.proofs.form_stands.Statement.{statement}
+use Rattle.reader.proofs.form_stands.Tie as tie
 
 enum-told : tie.Need-enum-told
 enum-told c = search needs
@@ -61,8 +61,8 @@ returns-8 : tie.Need-returns-8
 unfolding mayStand
 returns-8 c = sym (ap (mayStand _) (c .enum-told8 .given .1))
 
-pub may-stand-spec : {M : Type 1} → statement M
-may-stand-spec =
+pub form-stands-spec : {M : Type 1} → statement M
+form-stands-spec =
     tie.close
     (tie.spec
     enum-told

@@ -27,7 +27,7 @@ use Rattle.sound.proofs.Nets.{net-some, net-of}
 use Rattle.drc.specs.Breach.{Draws}
 use Rattle.drc.specs.Covers.{samePoints, isOnBoard, drawnOf, drawnFrom, drawnBy, trackDrawn, coversOf}
 
-samePoints-true : (ps qs : List Point) → samePoints ps qs ≡ true → ps ≡ qs
+pub samePoints-true : (ps qs : List Point) → samePoints ps qs ≡ true → ps ≡ qs
 unfolding samePoints
 samePoints-true [] [] h = refl
 samePoints-true [] (q ∷ qs) h = cc
@@ -36,7 +36,7 @@ samePoints-true (p ∷ ps) (q ∷ qs) h =
     let s = and-split (samePoint p q) (samePoints ps qs) h in
     ap₂ (λ x y. x ∷ y) (samePoint-true p q (s .0)) (samePoints-true ps qs (s .1))
 
-samePoints-refl : (ps : List Point) → samePoints ps ps ≡ true
+pub samePoints-refl : (ps : List Point) → samePoints ps ps ≡ true
 unfolding samePoints
 samePoints-refl [] = refl
 samePoints-refl (p ∷ ps) = and-both (samePoint p p) (samePoints ps ps) (samePoint-refl p) (samePoints-refl ps)

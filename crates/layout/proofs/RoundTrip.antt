@@ -58,23 +58,35 @@ inner-digit : (d : ℕ) → d < 10 → inner (48 + d) ≡ true
 unfolding inner
 inner-digit d h = rw (ne-eqb (48 + d) 32 (λ e. omega arith), ne-eqb (48 + d) 40 (λ e. omega arith), ne-eqb (48 + d) 41 (λ e. omega arith))
 
+-- no byte of a number ends a word
+pub digits-inner : (n : ℕ) → allOf (λ b. not (endsWord b)) (digits n) ≡ true
+unfolding inner
+digits-inner n = allOf-digits inner inner-digit n
+
 word-then : (n c : ℕ) (rest : List ℕ) → endsWord c ≡ true → wordsIn (digits n ++ c ∷ rest) ≡ digits n ∷ wordsIn rest
-unfolding wordsIn inner
+unfolding wordsIn
 word-then n c rest e =
-    ap nonEmpty (piece-then endsWord (digits n) c rest (allOf-digits inner inner-digit n) e)
+    ap nonEmpty (piece-then endsWord (digits n) c rest (digits-inner n) e)
     ∙ nonEmpty-some (digits n) (pieces endsWord rest) (some-digits n)
 
 pointWords : List Point → List (List ℕ)
 pointWords [] = []
 pointWords (p ∷ ps) = digits (p .column) ∷ digits (p .row) ∷ pointWords ps
 
+-- the words of a text that begins with a point are its two numbers, and those of the rest
+pub words-point : (p : Point) (rest : List ℕ) →
+    wordsIn (32 ∷ 40 ∷ (digits (p .column) ++ 32 ∷ (digits (p .row) ++ 41 ∷ rest))) ≡ digits (p .column) ∷ digits (p .row) ∷ wordsIn rest
+unfolding wordsIn pieces nonEmpty joined
+words-point p rest =
+    word-then (p .column) 32 (digits (p .row) ++ 41 ∷ rest) refl
+    ∙ ap (λ (ws : List (List ℕ)). digits (p .column) ∷ ws) (word-then (p .row) 41 rest refl)
+
 words-points : (ps : List Point) → wordsIn (pointsThen ps (41 ∷ [])) ≡ pointWords ps
 unfolding pointsThen wordsIn pieces nonEmpty joined pointWords
 words-points [] = refl
 words-points (p ∷ ps) =
-    word-then (p .column) 32 (digits (p .row) ++ 41 ∷ pointsThen ps (41 ∷ [])) refl
-    ∙ ap (λ (ws : List (List ℕ)). digits (p .column) ∷ ws)
-    (word-then (p .row) 41 (pointsThen ps (41 ∷ [])) refl ∙ ap (λ (ws : List (List ℕ)). digits (p .row) ∷ ws) (words-points ps))
+    words-point p (pointsThen ps (41 ∷ []))
+    ∙ ap (λ (ws : List (List ℕ)). digits (p .column) ∷ digits (p .row) ∷ ws) (words-points ps)
 
 -- where points follow a number, its digits end at their first byte
 after-number : (n : ℕ) (ps : List Point) → wordsIn (digits n ++ pointsThen ps (41 ∷ [])) ≡ digits n ∷ pointWords ps
@@ -88,6 +100,10 @@ points-back : (ps : List Point) → pointsOf (map (valueFrom 0) (pointWords ps))
 unfolding pointsOf pointWords
 points-back [] = refl
 points-back (p ∷ ps) = rw (value-digits (p .column), value-digits (p .row), points-back ps)
+
+-- points, written and read, are the points
+pub points-read : (ps : List Point) → pointsOf (map (valueFrom 0) (wordsIn (pointsThen ps (41 ∷ [])))) ≡ ps
+points-read ps = ap (λ (ws : List (List ℕ)). pointsOf (map (valueFrom 0) ws)) (words-points ps) ∙ points-back ps
 
 -- a line's text, read, is the line
 
@@ -170,6 +186,15 @@ read-layout l h = rw (rough-layout l, same-refl (layoutText l), h)
 pub only-some : {A : Type 0} (t : Bool) (x y : A) → cond t (some x) none ≡ some y → (t ≡ true) × (x ≡ y)
 only-some true x y e = (refl, cc)
 only-some false x y e = (cc, cc)
+
+-- a line that is read has its text, and its numbers have at most six digits
+pub read-line-sound : (s : List ℕ) (x : Line) → readLine s ≡ some x → (s ≡ lineText x) × (smallLine x ≡ true)
+unfolding readLine
+read-line-sound s x e =
+    let r = roughLine s in
+    let h = only-some (same (lineText r) s && smallLine r) r x e in
+    let k = and-split (same (lineText r) s) (smallLine r) (h .0) in
+    (sym (same-true (lineText r) s (k .0)) ∙ ap lineText (h .1), ap smallLine (sym (h .1)) ∙ k .1)
 
 pub read-layout-sound : (s : List ℕ) (l : Layout) → readLayout s ≡ some l → s ≡ layoutText l
 unfolding readLayout

@@ -27,7 +27,7 @@ pub enum Token {
 }
 
 // What a scan stops at: the byte that ends a line, a byte that is no space, a byte that ends a word.
-enum Stop {
+pub enum Stop {
     LineEnd,
     NotSpace,
     WordEnd,
@@ -53,7 +53,7 @@ fn stops(stop: Stop, b: u8) -> bool
 }
 
 // The place of the first byte at or after `from` at which a scan stops, or the length.
-fn scan_to(stop: Stop, s: &[u8], from: usize) -> usize
+pub fn scan_to(stop: Stop, s: &[u8], from: usize) -> usize
     requires { ⌜ from ≤ length (now s) ⌝ }
     ensures { λ r. ⌜ (r ≡ scan (stopsAt stop) (now (s .entry)) from) × (from ≤ r) × (r ≤ length (now (s .entry))) ⌝ }
 {

@@ -10,6 +10,7 @@ use borrow.Author.Tests.{lt-ltb}
 use Rattle.lists.specs.Lists.{Each}
 use Rattle.lists.proofs.Cases.{by-test, and-both}
 use Rattle.lists.proofs.Laws.{Each-map}
+use Rattle.board.specs.declared.Board.{Board}
 use Rattle.board.specs.declared.Net.{Net}
 use Rattle.board.specs.declared.Shape.{Shape}
 use Rattle.board.specs.declared.Shape.the-variants.{Plain, Stretched}
@@ -17,7 +18,7 @@ use Rattle.board.specs.Length.{width}
 use Rattle.board.specs.Job.{Job}
 use Rattle.board.specs.Placement.{Placement, bottom}
 use Rattle.board.specs.Rival.{worthSum}
-use Rattle.board.specs.Accepted.{AcceptedJob}
+use Rattle.board.specs.Accepted.{BoardInRange, NetInRange, AcceptedJob}
 use Rattle.board.proofs.ShortestShape.{worth-needed}
 use Rattle.text.specs.Digits.{digits}
 use Rattle.text.proofs.Numbers.{length-digits}
@@ -104,7 +105,7 @@ points-length (p ∷ ps) rest b =
     let h = points-length ps rest (b .1) in
     simp length-append (omega arith)
 
-wire-length : (w : Wire) → WireBound w → length (lineText (wire w)) ≤ 100
+pub wire-length : (w : Wire) → WireBound w → length (lineText (wire w)) ≤ 100
 unfolding lineText
 wire-length w b =
     let n = digits-4 (w .number) (b .number) in
@@ -173,45 +174,44 @@ distinct-length p (q ∷ qs) =
     let h = distinct-length q qs in
     by-test (samePoint p q) (λ e. rw e (omega arith)) (λ e. rw e (omega arith))
 
-module _ (job : Job) (a : AcceptedJob job) where
-  column-bounds : (t : ℕ) → t ≤ job .board .tracks → (viaColumn t < 1000) × (wireColumn t < 1000) × (width (job .board) < 1000)
+-- the wire of a placement that ends on the board
+module _ (board : Board) (b : BoardInRange board) where
+  column-bounds : (t : ℕ) → t ≤ board .tracks → (viaColumn t < 1000) × (wireColumn t < 1000) × (width board < 1000)
   unfolding viaColumn wireColumn width
-  column-bounds t h = let k = a .board-range .tracks-range in omega arith
+  column-bounds t h = let k = b .tracks-range in omega arith
 
-  row-bounds : (p : Placement) → p .top ≤ bottom p → bottom p ≤ job .board .rows → (nearRow p < 10000) × (farRow p < 10000)
+  row-bounds : (p : Placement) → p .top ≤ bottom p → bottom p ≤ board .rows → (nearRow p < 10000) × (farRow p < 10000)
   unfolding nearRow farRow
   row-bounds p l h =
-      let k = a .board-range .rows-range in
+      let k = b .rows-range in
       by-test (ltb (p .net .left .0) (p .net .right .0)) (λ e. rw e (omega arith)) (λ e. rw e (omega arith))
 
-  corner-bounds : (t : ℕ) (p : Placement) (s : Shape) → t ≤ job .board .tracks → List·Memᴰ (p .net) (job .nets) → bottom p ≤ job .board .rows →
-      Each PointBound (corners (job .board) t p s) × (length (corners (job .board) t p s) ≤ 7)
+  corner-bounds : (t : ℕ) (p : Placement) (s : Shape) → t ≤ board .tracks → NetInRange board (p .net) → bottom p ≤ board .rows →
+      Each PointBound (corners board t p s) × (length (corners board t p s) ≤ 7)
   unfolding corners
-  corner-bounds t p Plain h i b =
+  corner-bounds t p Plain h n l =
       let c = column-bounds t h in
-      let n = a .nets-each (p .net) i in
-      let k = a .board-range .rows-range in
+      let k = b .rows-range in
       (omega arith, omega arith)
-  corner-bounds t p (Stretched e) h i b =
+  corner-bounds t p (Stretched e) h n l =
       let c = column-bounds t h in
-      let r = row-bounds p (omega arith) b in
-      let n = a .nets-each (p .net) i in
-      let k = a .board-range .rows-range in
+      let r = row-bounds p (omega arith) l in
+      let k = b .rows-range in
       (omega arith, omega arith)
 
-  wire-bounds : (t : ℕ) (p : Placement) → t ≤ job .board .tracks → List·Memᴰ (p .net) (job .nets) → bottom p ≤ job .board .rows → WireBound (wireOf (job .board) t p)
+  pub wire-bounds : (t : ℕ) (p : Placement) → t ≤ board .tracks → NetInRange board (p .net) → bottom p ≤ board .rows → WireBound (wireOf board t p)
   unfolding wireOf pointsOn
-  wire-bounds t p h i b =
-      let n = a .nets-each (p .net) i in
-      let k = a .board-range .rows-range in
-      let c = corner-bounds t p (p .shape) h i b in
+  wire-bounds t p h n l =
+      let k = b .rows-range in
+      let c = corner-bounds t p (p .shape) h n l in
       let pin = at 0 (p .net .left .0) in
       record {
         number = omega arith;
-        count = omega (arith, distinct-length pin (corners (job .board) t p (p .shape)));
-        points = (omega arith, all-distinct PointBound pin (corners (job .board) t p (p .shape)) (c .0));
+        count = omega (arith, distinct-length pin (corners board t p (p .shape)));
+        points = (omega arith, all-distinct PointBound pin (corners board t p (p .shape)) (c .0));
       }
 
+module _ (job : Job) (a : AcceptedJob job) where
   track-bounds : (earlier : List ℕ) (t : ℕ) (trs : List DrawnTrack) → SoundTracks job earlier t trs → t + length trs ≤ job .board .tracks + 1 → printedSum trs < 1000000 → Each TrackBound trs
   unfolding printedSum
   track-bounds earlier t [] s h b = tt
@@ -220,7 +220,7 @@ module _ (job : Job) (a : AcceptedJob job) where
       let k = a .board-range .tracks-range in
       let t-le : t ≤ job .board .tracks = omega arith in
       let bounds : Each WireBound (map (wireOf (job .board) t) (x .places)) =
-      Each-mapped (wireOf (job .board) t) WireBound (x .places) (Each-map (x .places) (λ p q. wire-bounds t p t-le (q .of-job) (q .legal .to-last)) (x .placed)) in (
+      Each-mapped (wireOf (job .board) t) WireBound (x .places) (Each-map (x .places) (λ p q. wire-bounds (job .board) (a .board-range) t p t-le (a .nets-each (p .net) (q .of-job) .in-range) (q .legal .to-last)) (x .placed)) in (
         record { number = omega (arith, x .number); sum = omega arith; wires = rw (x .drawn) bounds },
         track-bounds (earlier ++ wireNumbers (tr .wires)) (suc t) trs (s .1) (omega arith) (omega arith),
       )

@@ -1,0 +1,6 @@
+-- What an exact reading of a line of a layout finds is what reading back finds.
+pub mod NumbersRead
+pub mod PointsRead
+pub mod ExactForms
+pub mod Answers
+pub mod RowsRead

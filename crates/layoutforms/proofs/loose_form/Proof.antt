@@ -1,0 +1,43 @@
+-- `layoutforms::loose_form` meets its contract. Assumes nothing.
+use mathlib.Core.Path.{sym, ap, _∙_}
+use borrow.Author.Tests.{not-true, not-false}
+use Rattle.layoutforms.proofs.NumbersRead.{spaced-read}
+use Rattle.layoutforms.proofs.Answers.{loose-left, loose-shut}
+use Rattle.layoutforms.specs.ExactForm.{looseFrom}
+use borrow.Author.Needs.{needs}
+use Rattle.layoutforms.proofs.loose_form.Statement.{statement}
+use Rattle.layoutforms.proofs.loose_form.Tie as tie
+
+spaced-at-requires : tie.Need-spaced-at-requires
+spaced-at-requires c κs = search needs
+
+enum-known-number : tie.Need-enum-known-number
+enum-known-number c = search needs
+
+shut-at-requires : tie.Need-shut-at-requires
+shut-at-requires c κs = spaced-read _ _ _ _ (sym (sym (c .before .number .given .1) ∙ c .before .before .before .spaced-at .ensures)) .within
+
+returns : tie.Need-returns
+returns c = loose-left _ _ _ _ (sym (c .before .before .before .number .given .1) ∙ c .before .before .before .before .before .spaced-at .ensures) (sym (c .before .shut-at .ensures) ∙ not-true _ (c .if1 .taken))
+
+enum-told : tie.Need-enum-told
+enum-told c = search needs
+
+returns-2 : tie.Need-returns-2
+returns-2 c = loose-shut _ _ _ _ (sym (c .before .before .before .number .given .1) ∙ c .before .before .before .before .before .spaced-at .ensures) (sym (c .before .shut-at .ensures) ∙ not-false _ (c .if1 .left))
+
+returns-3 : tie.Need-returns-3
+unfolding looseFrom
+returns-3 c = ap (looseFrom _) (sym (c .enum-told .given .1) ∙ c .before .before .spaced-at .ensures)
+
+pub loose-form-spec : {M : Type 1} → statement M
+loose-form-spec =
+    tie.close
+    (tie.spec
+    spaced-at-requires
+    enum-known-number
+    shut-at-requires
+    returns
+    enum-told
+    returns-2
+    returns-3)

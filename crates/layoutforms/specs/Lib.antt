@@ -1,0 +1,5 @@
+-- The lines of a layout as the code reads them: exactly, byte by byte.
+pub mod LayoutForms
+pub mod Exact
+pub mod ExactForm
+pub mod Rows

@@ -1,6 +1,6 @@
 -- The answers of the functions that read the parts of a line, one law for each way that a function returns. Assumes nothing.
-use mathlib.Core.Path.{_≡_, refl, sym, ap, _∙_}
-use mathlib.Core.Bool.{Bool, true, false, and-true}
+use mathlib.Core.Path.{_≡_, refl, sym, _∙_}
+use mathlib.Core.Bool.{true, false, and-true}
 use mathlib.Core.List.{List, [], _∷_}
 use mathlib.Core.Option.{Option, none, some}
 use Prim.Native.Nat.{ℕ, suc, _+_, _-_, _≤_, _<_}
@@ -8,7 +8,7 @@ use native.Mathlib.Omega.{arith}
 use lib.ListN.{length, getD, take, drop, length-drop, drop-of-length-le}
 use lib.Seq.{drop-cons, take-all}
 use lib.Dec.{eqb}
-use borrow.Author.Tests.{ne-eqb, eq-eqb}
+use borrow.Author.Tests.{ne-eqb}
 use Rattle.text.specs.Bytes.{same, endsWord}
 use Rattle.text.specs.Digits.{number, asNumber}
 use Rattle.text.specs.declared.Number.the-variants as Read
@@ -16,10 +16,9 @@ use Rattle.text.proofs.Bytes.{same-sizes}
 use Rattle.lines.specs.Places.{scan}
 use Rattle.keywords.specs.Keywords.{wordOf, findWord}
 use Rattle.keywords.specs.declared.Vocabulary.the-variants.{Layout}
-use Rattle.layout.specs.declared.Point.{Point}
 use Rattle.layout.specs.ReadBack.{readLine}
 use Rattle.layoutforms.specs.Exact.{shutText, beginsWith, leadingZero, exactNumber, numberUpTo, numberAt, spacedAt, openedAt, pointFrom, pointBehind, pointAt, isPoints}
-use Rattle.layoutforms.specs.ExactForm.{looseFrom, wireFrom, sumFrom, trackFrom, formBehind, innerForm, exactForm}
+use Rattle.layoutforms.specs.ExactForm.{looseForm, wireForm, sumForm, trackForm, formBehind, innerForm, exactForm}
 use Rattle.layoutforms.specs.declared.LayoutNumber.the-variants.{Value, Missing}
 use Rattle.layoutforms.specs.declared.LayoutPoint.the-variants.{Stands, Absent}
 use Rattle.layoutforms.specs.declared.LayoutForm.the-variants.{Opening, Track, Wire, Loose, Closing, Other}
@@ -82,17 +81,17 @@ pub spaced-some : (s : List ℕ) (at : ℕ) → beginsWith 32 (drop at s) ≡ tr
 unfolding spacedAt
 spaced-some s at e = rw e
 
-pub opened-none : (s : List ℕ) (at : ℕ) → beginsWith 32 (drop at s) ≡ false → Missing ≡ openedAt s at
+pub bracket-none : (s : List ℕ) (at : ℕ) → beginsWith 32 (drop at s) ≡ false → Missing ≡ openedAt s at
 unfolding openedAt
-opened-none s at e = rw e
+bracket-none s at e = rw e
 
-pub opened-shut : (s : List ℕ) (at : ℕ) → beginsWith 32 (drop at s) ≡ true → beginsWith 40 (drop (at + 1) s) ≡ false → Missing ≡ openedAt s at
+pub bracket-shut : (s : List ℕ) (at : ℕ) → beginsWith 32 (drop at s) ≡ true → beginsWith 40 (drop (at + 1) s) ≡ false → Missing ≡ openedAt s at
 unfolding openedAt
-opened-shut s at e f = rw (e, f)
+bracket-shut s at e f = rw (e, f)
 
-pub opened-some : (s : List ℕ) (at : ℕ) → beginsWith 32 (drop at s) ≡ true → beginsWith 40 (drop (at + 1) s) ≡ true → numberAt s (at + 2) ≡ openedAt s at
+pub bracket-some : (s : List ℕ) (at : ℕ) → beginsWith 32 (drop at s) ≡ true → beginsWith 40 (drop (at + 1) s) ≡ true → numberAt s (at + 2) ≡ openedAt s at
 unfolding openedAt
-opened-some s at e f = rw (e, f)
+bracket-some s at e f = rw (e, f)
 
 -- ---- a point
 
@@ -115,49 +114,49 @@ point-shut s at c to r end e f g = rw (← e, ← f, g)
 
 -- ---- a line behind its word
 
-pub loose-left : (s : List ℕ) (at n to : ℕ) → Value n to ≡ spacedAt s at → same (drop to s) shutText ≡ false → Other ≡ looseFrom s (spacedAt s at)
-unfolding looseFrom
+pub loose-left : (s : List ℕ) (at n to : ℕ) → Value n to ≡ spacedAt s at → same (drop to s) shutText ≡ false → Other ≡ looseForm s (spacedAt s at)
+unfolding looseForm
 loose-left s at n to e f = rw (← e, f)
 
-pub loose-shut : (s : List ℕ) (at n to : ℕ) → Value n to ≡ spacedAt s at → same (drop to s) shutText ≡ true → Loose n ≡ looseFrom s (spacedAt s at)
-unfolding looseFrom
+pub loose-shut : (s : List ℕ) (at n to : ℕ) → Value n to ≡ spacedAt s at → same (drop to s) shutText ≡ true → Loose n ≡ looseForm s (spacedAt s at)
+unfolding looseForm
 loose-shut s at n to e f = rw (← e, f)
 
-pub wire-left : (s : List ℕ) (at n to : ℕ) → Value n to ≡ spacedAt s at → isPoints (drop to s) ≡ false → Other ≡ wireFrom s (spacedAt s at)
-unfolding wireFrom
+pub wire-left : (s : List ℕ) (at n to : ℕ) → Value n to ≡ spacedAt s at → isPoints (drop to s) ≡ false → Other ≡ wireForm s (spacedAt s at)
+unfolding wireForm
 wire-left s at n to e f = rw (← e, f)
 
-pub wire-shut : (s : List ℕ) (at n to : ℕ) → Value n to ≡ spacedAt s at → isPoints (drop to s) ≡ true → Wire n ≡ wireFrom s (spacedAt s at)
-unfolding wireFrom
+pub wire-shut : (s : List ℕ) (at n to : ℕ) → Value n to ≡ spacedAt s at → isPoints (drop to s) ≡ true → Wire n ≡ wireForm s (spacedAt s at)
+unfolding wireForm
 wire-shut s at n to e f = rw (← e, f)
 
-pub track-no-sum : (s : List ℕ) (at t to : ℕ) → Value t to ≡ spacedAt s at → Missing ≡ spacedAt s to → Other ≡ trackFrom s (spacedAt s at)
-unfolding trackFrom sumFrom
+pub track-no-sum : (s : List ℕ) (at t to : ℕ) → Value t to ≡ spacedAt s at → Missing ≡ spacedAt s to → Other ≡ trackForm s (spacedAt s at)
+unfolding trackForm sumForm
 track-no-sum s at t to e f = rw (← e, ← f)
 
-pub track-left : (s : List ℕ) (at t to n end : ℕ) → Value t to ≡ spacedAt s at → Value n end ≡ spacedAt s to → same (drop end s) shutText ≡ false → Other ≡ trackFrom s (spacedAt s at)
-unfolding trackFrom sumFrom
+pub track-left : (s : List ℕ) (at t to n end : ℕ) → Value t to ≡ spacedAt s at → Value n end ≡ spacedAt s to → same (drop end s) shutText ≡ false → Other ≡ trackForm s (spacedAt s at)
+unfolding trackForm sumForm
 track-left s at t to n end e f g = rw (← e, ← f, g)
 
-pub track-shut : (s : List ℕ) (at t to n end : ℕ) → Value t to ≡ spacedAt s at → Value n end ≡ spacedAt s to → same (drop end s) shutText ≡ true → Track t n ≡ trackFrom s (spacedAt s at)
-unfolding trackFrom sumFrom
+pub track-shut : (s : List ℕ) (at t to n end : ℕ) → Value t to ≡ spacedAt s at → Value n end ≡ spacedAt s to → same (drop end s) shutText ≡ true → Track t n ≡ trackForm s (spacedAt s at)
+unfolding trackForm sumForm
 track-shut s at t to n end e f g = rw (← e, ← f, g)
 
-pub behind-track : (s : List ℕ) (at i : ℕ) → i ≡ 1 → trackFrom s (spacedAt s at) ≡ formBehind s at i
+pub word-track : (s : List ℕ) (at i : ℕ) → i ≡ 1 → trackForm s (spacedAt s at) ≡ formBehind s at i
 unfolding formBehind
-behind-track s at i e = rw e
+word-track s at i e = rw e
 
-pub behind-wire : (s : List ℕ) (at i : ℕ) → i ≡ 2 → wireFrom s (spacedAt s at) ≡ formBehind s at i
+pub word-wire : (s : List ℕ) (at i : ℕ) → i ≡ 2 → wireForm s (spacedAt s at) ≡ formBehind s at i
 unfolding formBehind
-behind-wire s at i e = rw e
+word-wire s at i e = rw e
 
-pub behind-loose : (s : List ℕ) (at i : ℕ) → i ≡ 3 → looseFrom s (spacedAt s at) ≡ formBehind s at i
+pub word-loose : (s : List ℕ) (at i : ℕ) → i ≡ 3 → looseForm s (spacedAt s at) ≡ formBehind s at i
 unfolding formBehind
-behind-loose s at i e = rw e
+word-loose s at i e = rw e
 
-pub behind-none : (s : List ℕ) (at i : ℕ) → (i ≡ 1 → ⊥) → (i ≡ 2 → ⊥) → (i ≡ 3 → ⊥) → Other ≡ formBehind s at i
+pub word-none : (s : List ℕ) (at i : ℕ) → (i ≡ 1 → ⊥) → (i ≡ 2 → ⊥) → (i ≡ 3 → ⊥) → Other ≡ formBehind s at i
 unfolding formBehind
-behind-none s at i a b c = rw (ne-eqb i 1 a, ne-eqb i 2 b, ne-eqb i 3 c)
+word-none s at i a b c = rw (ne-eqb i 1 a, ne-eqb i 2 b, ne-eqb i 3 c)
 
 -- ---- a line
 

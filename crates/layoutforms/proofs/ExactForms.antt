@@ -1,21 +1,21 @@
 -- The form of a line, worked out part by part, is that of the line that reading back gives. Assumes nothing.
 use mathlib.Core.Path.{_≡_, refl, sym, ap, _∙_}
-use mathlib.Core.Bool.{Bool, true, false, cond, _&&_}
+use mathlib.Core.Bool.{true}
 use mathlib.Core.List.{List, [], _∷_, _++_}
-use mathlib.Core.Option.{Option, none, some}
+use mathlib.Core.Option.{none, some}
 use mathlib.Core.Logic.{_⊎_, inl, inr, ⊎-elim}
-use Prim.Native.Nat.{ℕ, _+_, _-_, _≤_, _<_}
+use Prim.Native.Nat.{ℕ, _+_, _-_, _<_}
 use native.Mathlib.Omega.{arith}
 use native.Mathlib.Nat.{add-sub-cancel-left}
-use lib.ListN.{length, take, drop, take-append-drop}
+use lib.ListN.{take, drop, take-append-drop}
 use lib.Seq.{drop-drop}
 use lib.Dec.{eqb}
 use borrow.Author.Tests.{eqb-true, lt-ltb, ltb-true}
 use Rattle.lists.proofs.Cases.{by-test, by-option, and-split, and-both}
 use Rattle.text.specs.Bytes.{same, endsWord}
 use Rattle.text.specs.Digits.{digits}
-use Rattle.text.proofs.Bytes.{same-refl, same-true}
-use Rattle.keywords.specs.Keywords.{wordOf, findWord, words, findFrom}
+use Rattle.text.proofs.Bytes.{same-true}
+use Rattle.keywords.specs.Keywords.{wordOf, findWord, findFrom}
 use Rattle.keywords.specs.declared.Vocabulary.the-variants.{Layout}
 use Rattle.keywords.proofs.Words.{find-word}
 use Rattle.lines.specs.Places.{until, scan}
@@ -26,11 +26,11 @@ use Rattle.layout.specs.ReadBack.{isSmall, smallPoints, smallLine, readLine}
 use Rattle.layout.proofs.RoundTrip.{read-line, read-line-sound}
 use Rattle.layoutforms.specs.LayoutForms.{lineForm, layoutFormOf}
 use Rattle.layoutforms.specs.Exact.{shutText, beginsWith, spacedAt, isPoints}
-use Rattle.layoutforms.specs.ExactForm.{looseFrom, wireFrom, sumFrom, trackFrom, formBehind, innerForm, exactForm}
+use Rattle.layoutforms.specs.ExactForm.{looseForm, wireForm, sumForm, trackForm, formBehind, innerForm, exactForm}
 use Rattle.layoutforms.specs.declared.LayoutNumber.{LayoutNumber}
 use Rattle.layoutforms.specs.declared.LayoutNumber.the-variants.{Value, Missing}
 use Rattle.layoutforms.specs.declared.LayoutForm.{LayoutForm}
-use Rattle.layoutforms.specs.declared.LayoutForm.the-variants.{Opening, Track, Wire as WireForm, Loose, Closing, Other}
+use Rattle.layoutforms.specs.declared.LayoutForm.the-variants.{Wire as WireForm, Other}
 use Rattle.layoutforms.proofs.NumbersRead.{byte-read, NumberRead, spaced-read, spaced-there}
 use Rattle.layoutforms.proofs.PointsRead.{are-points, points-are}
 
@@ -50,8 +50,8 @@ LineOrOther s f = (f ≡ Other) ⊎ IsLine s
 abbrev Headed : List ℕ → ℕ → ℕ → Type 0
 Headed s at i = s ≡ 32 ∷ 40 ∷ (wordOf Layout i ++ drop at s)
 
-loose-line : (s : List ℕ) (at : ℕ) (o : LayoutNumber) → Headed s at 3 → spacedAt s at ≡ o → LineOrOther s (looseFrom s o)
-unfolding looseFrom lineText smallLine wordOf
+loose-line : (s : List ℕ) (at : ℕ) (o : LayoutNumber) → Headed s at 3 → spacedAt s at ≡ o → LineOrOther s (looseForm s o)
+unfolding looseForm lineText smallLine wordOf
 loose-line s at Missing h e = inl refl
 loose-line s at (Value n to) h e =
     let r = spaced-read s at n to e in
@@ -61,8 +61,8 @@ loose-line s at (Value n to) h e =
     inr (record { line = loose n; small = lt-ltb n 1000000 (r .small); text = sym (h ∙ ap (λ (l : List ℕ). 32 ∷ 40 ∷ (wordOf Layout 3 ++ l)) t) }))
     (λ q. inl (rw q))
 
-wire-line : (s : List ℕ) (at : ℕ) (o : LayoutNumber) → Headed s at 2 → spacedAt s at ≡ o → LineOrOther s (wireFrom s o)
-unfolding wireFrom lineText smallLine wordOf
+wire-line : (s : List ℕ) (at : ℕ) (o : LayoutNumber) → Headed s at 2 → spacedAt s at ≡ o → LineOrOther s (wireForm s o)
+unfolding wireForm lineText smallLine wordOf
 wire-line s at Missing h e = inl refl
 wire-line s at (Value n to) h e =
     let r = spaced-read s at n to e in
@@ -78,8 +78,8 @@ wire-line s at (Value n to) h e =
     }))
     (λ q. inl (rw q))
 
-sum-line : (s : List ℕ) (at t to : ℕ) (o : LayoutNumber) → Headed s at 1 → NumberRead s at (32 ∷ []) t to → spacedAt s to ≡ o → LineOrOther s (sumFrom s t o)
-unfolding sumFrom lineText smallLine wordOf
+sum-line : (s : List ℕ) (at t to : ℕ) (o : LayoutNumber) → Headed s at 1 → NumberRead s at (32 ∷ []) t to → spacedAt s to ≡ o → LineOrOther s (sumForm s t o)
+unfolding sumForm lineText smallLine wordOf
 sum-line s at t to Missing h m e = inl refl
 sum-line s at t to (Value n end) h m e =
     let r = spaced-read s to n end e in
@@ -95,8 +95,8 @@ sum-line s at t to (Value n end) h m e =
     }))
     (λ q. inl (rw q))
 
-track-line : (s : List ℕ) (at : ℕ) (o : LayoutNumber) → Headed s at 1 → spacedAt s at ≡ o → LineOrOther s (trackFrom s o)
-unfolding trackFrom
+track-line : (s : List ℕ) (at : ℕ) (o : LayoutNumber) → Headed s at 1 → spacedAt s at ≡ o → LineOrOther s (trackForm s o)
+unfolding trackForm
 track-line s at Missing h e = inl refl
 track-line s at (Value t to) h e = sum-line s at t to (spacedAt s to) h (spaced-read s at t to e) refl
 
@@ -157,7 +157,7 @@ first-byte [] = (41, [], refl, refl)
 first-byte (p ∷ ps) = (32, 40 ∷ (digits (p .column) ++ 32 ∷ (digits (p .row) ++ 41 ∷ pointsThen ps shutText)), refl, refl)
 
 wire-exact : (w : Wire) → w .number < 1000000 → smallPoints (w .points) ≡ true → exactForm (lineText (wire w)) ≡ WireForm (w .number)
-unfolding exactForm innerForm formBehind lineText beginsWith scan until findWord findFrom wordOf same wireFrom
+unfolding exactForm innerForm formBehind lineText beginsWith scan until findWord findFrom wordOf same wireForm
 wire-exact w h k =
     let f = first-byte (w .points) in
     let d : drop 6 (lineText (wire w)) ≡ 32 ∷ (digits (w .number) ++ f .0 ∷ f .1) = ap (λ (l : List ℕ). 32 ∷ (digits (w .number) ++ l)) (f .2) in
@@ -165,7 +165,7 @@ wire-exact w h k =
     rw (a .read, a .behind, ← f .2, points-are (w .points) k)
 
 line-exact : (x : Line) → smallLine x ≡ true → exactForm (lineText x) ≡ lineForm x
-unfolding exactForm innerForm formBehind lineForm lineText smallLine beginsWith scan until findWord findFrom wordOf same looseFrom wireFrom trackFrom sumFrom
+unfolding exactForm innerForm formBehind lineForm lineText smallLine beginsWith scan until findWord findFrom wordOf same looseForm wireForm trackForm sumForm
 line-exact opens h = refl
 line-exact (track t n) h =
     let k = and-split (isSmall t) (isSmall n) h in

@@ -4,3 +4,5 @@ pub mod PointsRead
 pub mod ExactForms
 pub mod Answers
 pub mod RowsRead
+pub mod FormsRead
+pub mod FormExamples

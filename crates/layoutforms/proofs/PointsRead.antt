@@ -1,28 +1,26 @@
 -- The laws of points read at a place of a line: what was read stands there, what stands there is read, and point after point goes through
 -- all of them. Assumes nothing.
 use mathlib.Core.Path.{_≡_, refl, sym, ap, _∙_}
-use mathlib.Core.Bool.{Bool, true, false, cond, _&&_}
-use mathlib.Core.List.{List, [], _∷_, _++_, map}
+use mathlib.Core.Bool.{true, false, _&&_}
+use mathlib.Core.List.{List, [], _∷_, _++_}
 use Prim.Native.Nat.{ℕ, _+_, _≤_, _<_}
 use native.Mathlib.Omega.{arith}
 use lib.ListN.{length, drop, drop-of-length-le}
-use lib.Dec.{eqb}
 use borrow.Author.Tests.{eq-eqb, lt-ltb, ltb-true}
 use Rattle.lists.proofs.Cases.{by-test, and-split}
 use Rattle.text.specs.Bytes.{same, pieces, nonEmpty}
-use Rattle.text.specs.Digits.{digits, valueFrom}
+use Rattle.text.specs.Digits.{digits}
 use Rattle.text.proofs.Bytes.{same-refl, same-true, same-false}
 use Rattle.text.proofs.Numbers.{value-digits}
 use Rattle.layout.specs.declared.Point.{Point}
 use Rattle.layout.specs.LayoutText.{pointsThen}
 use Rattle.layout.specs.ReadBack.{wordsIn, pointsOf, isSmall, smallPoints}
 use Rattle.layout.proofs.RoundTrip.{words-point, points-read}
-use Rattle.layoutforms.specs.Exact.{shutText, beginsWith, numberAt, spacedAt, openedAt, pointFrom, pointBehind, pointAt, pointsIn, isPoints}
+use Rattle.layoutforms.specs.Exact.{shutText, beginsWith, spacedAt, openedAt, pointFrom, pointBehind, pointAt, pointsIn, isPoints}
 use Rattle.layoutforms.specs.declared.LayoutNumber.{LayoutNumber}
 use Rattle.layoutforms.specs.declared.LayoutNumber.the-variants.{Value, Missing}
-use Rattle.layoutforms.specs.declared.LayoutPoint.{LayoutPoint}
 use Rattle.layoutforms.specs.declared.LayoutPoint.the-variants.{Stands, Absent}
-use Rattle.layoutforms.proofs.NumbersRead.{byte-read, byte-begins, NumberRead, NumberThere, spaced-read, opened-read, spaced-there, opened-there}
+use Rattle.layoutforms.proofs.NumbersRead.{byte-read, byte-begins, NumberRead, spaced-read, opened-read, spaced-there, opened-there}
 
 -- ---- one point
 

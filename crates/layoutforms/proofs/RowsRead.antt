@@ -1,11 +1,11 @@
 -- The rows that a walk over the points of a wire keeps are those of its first and of its last point in the column. Assumes nothing.
 use mathlib.Core.Path.{_≡_, refl, sym, ap, _∙_}
-use mathlib.Core.Bool.{true, false, cond}
+use mathlib.Core.Bool.{true, false}
 use mathlib.Core.List.{List, [], _∷_, _++_}
 use mathlib.Core.Option.{Option, none, some}
 use Prim.Native.Nat.{ℕ, _+_, _≤_, _<_}
 use native.Mathlib.Omega.{arith}
-use lib.ListN.{length, drop, length-append}
+use lib.ListN.{length, drop}
 use lib.Seq.{drop-drop, drop-append-seam}
 use lib.Dec.{eqb}
 use Rattle.lists.proofs.Cases.{by-test, and-split}
@@ -15,7 +15,7 @@ use Rattle.lines.specs.Places.{scan, until}
 use Rattle.layout.specs.declared.Point.{Point}
 use Rattle.layout.specs.Tree.{Wire, wire}
 use Rattle.layout.specs.LayoutText.{pointsThen, lineText}
-use Rattle.layout.specs.ReadBack.{wordsIn, pointsOf, isSmall, smallPoints, smallLine, readLine}
+use Rattle.layout.specs.ReadBack.{isSmall, smallPoints, smallLine}
 use Rattle.layout.specs.Drawn.{firstIn, lastIn}
 use Rattle.layout.proofs.RoundTrip.{points-read, read-line-sound, digits-inner}
 use Rattle.layoutforms.specs.declared.ColumnRows.{ColumnRows}
@@ -23,7 +23,7 @@ use Rattle.layoutforms.specs.declared.LayoutPoint.the-variants.{Stands, 
 use Rattle.layoutforms.specs.Exact.{shutText, pointAt, pointsIn, isPoints}
 use Rattle.layoutforms.specs.Rows.{noRows, rowsFrom, rowsIn, withPoint, withPoints, PointRows, RowsOf}
 use Rattle.layoutforms.proofs.NumbersRead.{until-then}
-use Rattle.layoutforms.proofs.PointsRead.{PointRead, point-read, points-more, still-points, points-are, points-end, points-none}
+use Rattle.layoutforms.proofs.PointsRead.{point-read, points-more, still-points, points-are, points-end, points-none}
 use Rattle.layoutforms.proofs.ExactForms.{first-byte}
 
 -- ---- point after point
@@ -35,18 +35,18 @@ rows-found c u v (p ∷ ps) =
     by-test (eqb (p .column) c) (λ e. rw (e, rows-found c u (p .row) ps)) (λ e. rw (e, rows-found c u v ps))
 
 -- a point in another column changes nothing
-rows-skip : (c : ℕ) (p : Point) (ps : List Point) (o : Option ℕ) → eqb (p .column) c ≡ false → rowsFrom c ps o ≡ rowsFrom c (p ∷ ps) o
+column-skip : (c : ℕ) (p : Point) (ps : List Point) (o : Option ℕ) → eqb (p .column) c ≡ false → rowsFrom c ps o ≡ rowsFrom c (p ∷ ps) o
 unfolding rowsFrom lastIn
-rows-skip c p ps none e = refl
-rows-skip c p ps (some u) e = rw e
+column-skip c p ps none e = refl
+column-skip c p ps (some u) e = rw e
 
-rows-first : (c : ℕ) (p : Point) (ps : List Point) → eqb (p .column) c ≡ true → record { found = true; first = p .row; last = lastIn c (p .row) ps } ≡ rowsIn c (p ∷ ps)
+column-first : (c : ℕ) (p : Point) (ps : List Point) → eqb (p .column) c ≡ true → record { found = true; first = p .row; last = lastIn c (p .row) ps } ≡ rowsIn c (p ∷ ps)
 unfolding rowsIn rowsFrom firstIn lastIn
-rows-first c p ps e = rw (e, e)
+column-first c p ps e = rw (e, e)
 
-rows-later : (c : ℕ) (p : Point) (ps : List Point) → eqb (p .column) c ≡ false → rowsIn c ps ≡ rowsIn c (p ∷ ps)
+column-later : (c : ℕ) (p : Point) (ps : List Point) → eqb (p .column) c ≡ false → rowsIn c ps ≡ rowsIn c (p ∷ ps)
 unfolding rowsIn firstIn
-rows-later c p ps e = rw e (rows-skip c p ps (firstIn c ps) e)
+column-later c p ps e = rw e (column-skip c p ps (firstIn c ps) e)
 
 rows-end : (c : ℕ) → noRows ≡ rowsIn c []
 unfolding rowsIn rowsFrom firstIn
@@ -56,8 +56,8 @@ rows-all : (c : ℕ) (ps : List Point) → withPoints c noRows ps ≡ rowsIn c p
 unfolding withPoints withPoint
 rows-all c [] = rows-end c
 rows-all c (p ∷ ps) =
-    by-test (eqb (p .column) c) (λ e. rw e (rows-found c (p .row) (p .row) ps ∙ rows-first c p ps e))
-    (λ e. rw e (rows-all c ps ∙ rows-later c p ps e))
+    by-test (eqb (p .column) c) (λ e. rw e (rows-found c (p .row) (p .row) ps ∙ column-first c p ps e))
+    (λ e. rw e (rows-all c ps ∙ column-later c p ps e))
 
 -- no points
 no-points : pointsIn shutText ≡ []

@@ -1,5 +1,5 @@
 -- The parts of a line of a layout at a place of it. Document 01, "Drawing": single spaces, numbers of one to six digits, no leading zeros.
-use mathlib.Core.Bool.{Bool, true, false, cond, _&&_}
+use mathlib.Core.Bool.{Bool, false, cond, _&&_}
 use mathlib.Core.List.{List, [], _∷_, map}
 use mathlib.Core.Option.{Option, none, some}
 use Prim.Native.Nat.{ℕ, _+_, _-_}

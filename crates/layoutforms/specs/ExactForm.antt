@@ -15,31 +15,31 @@ use Rattle.layoutforms.specs.declared.LayoutForm.{LayoutForm}
 use Rattle.layoutforms.specs.declared.LayoutForm.the-variants.{Opening, Track, Wire, Loose, Closing, Other}
 
 -- a loose net behind its number: the closing bracket is all that is left
-unfoldable pub looseFrom : List ℕ → LayoutNumber → LayoutForm
-looseFrom s Missing = Other
-looseFrom s (Value n to) = cond (same (drop to s) shutText) (Loose n) Other
+unfoldable pub looseForm : List ℕ → LayoutNumber → LayoutForm
+looseForm s Missing = Other
+looseForm s (Value n to) = cond (same (drop to s) shutText) (Loose n) Other
 
 -- a wire behind its number: points and the closing bracket are all that is left
-unfoldable pub wireFrom : List ℕ → LayoutNumber → LayoutForm
-wireFrom s Missing = Other
-wireFrom s (Value n to) = cond (isPoints (drop to s)) (Wire n) Other
+unfoldable pub wireForm : List ℕ → LayoutNumber → LayoutForm
+wireForm s Missing = Other
+wireForm s (Value n to) = cond (isPoints (drop to s)) (Wire n) Other
 
 -- a track behind its sum: the closing bracket is all that is left
-unfoldable pub sumFrom : List ℕ → ℕ → LayoutNumber → LayoutForm
-sumFrom s t Missing = Other
-sumFrom s t (Value n to) = cond (same (drop to s) shutText) (Track t n) Other
+unfoldable pub sumForm : List ℕ → ℕ → LayoutNumber → LayoutForm
+sumForm s t Missing = Other
+sumForm s t (Value n to) = cond (same (drop to s) shutText) (Track t n) Other
 
 -- a track behind its number: its sum
-unfoldable pub trackFrom : List ℕ → LayoutNumber → LayoutForm
-trackFrom s Missing = Other
-trackFrom s (Value t to) = sumFrom s t (spacedAt s to)
+unfoldable pub trackForm : List ℕ → LayoutNumber → LayoutForm
+trackForm s Missing = Other
+trackForm s (Value t to) = sumForm s t (spacedAt s to)
 
 -- what stands behind word i of the layout's table
 unfoldable pub formBehind : List ℕ → ℕ → ℕ → LayoutForm
 formBehind s at i =
-    cond (eqb i 1) (trackFrom s (spacedAt s at))
-    (cond (eqb i 2) (wireFrom s (spacedAt s at))
-    (cond (eqb i 3) (looseFrom s (spacedAt s at)) Other))
+    cond (eqb i 1) (trackForm s (spacedAt s at))
+    (cond (eqb i 2) (wireForm s (spacedAt s at))
+    (cond (eqb i 3) (looseForm s (spacedAt s at)) Other))
 
 -- a line that begins with a space: a bracket, and the word that ends where a word ends
 unfoldable pub innerForm : List ℕ → LayoutForm

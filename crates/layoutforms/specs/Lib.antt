@@ -3,3 +3,4 @@ pub mod LayoutForms
 pub mod Exact
 pub mod ExactForm
 pub mod Rows
+pub mod FormCases

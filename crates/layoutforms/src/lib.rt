@@ -5,14 +5,13 @@ use layout::Point;
 use lines::Stop;
 use text::Number;
 ghost use mathlib.Core.Path.{_≡_};
-ghost use mathlib.Core.List.{_∷_, []};
 ghost use Prim.Native.Nat.{_≤_};
 ghost use lib.ListN.{length, drop};
 ghost use Rattle.text.specs.Bytes.{same};
 ghost use Rattle.layout.specs.ReadBack.{readLine};
 ghost use Rattle.layoutforms.specs.LayoutForms.{layoutFormOf};
-ghost use Rattle.layoutforms.specs.Exact.{shutText, beginsWith, leadingZero, numberAt, spacedAt, openedAt, pointAt, pointsIn, isPoints};
-ghost use Rattle.layoutforms.specs.ExactForm.{looseFrom, wireFrom, trackFrom, formBehind, innerForm};
+ghost use Rattle.layoutforms.specs.Exact.{shutText, beginsWith, leadingZero, numberAt, spacedAt, openedAt, pointAt, isPoints};
+ghost use Rattle.layoutforms.specs.ExactForm.{looseForm, wireForm, trackForm, formBehind, innerForm};
 ghost use Rattle.layoutforms.specs.Rows.{withPoint, PointRows, RowsOf};
 
 // What a line of a layout is, a wire without its points.
@@ -156,7 +155,7 @@ fn all_points(s: &[u8], at: usize) -> bool
 // What stands behind the word loose: a number and the closing bracket.
 fn loose_form(s: &[u8], at: usize) -> LayoutForm
     requires { ⌜ at ≤ length (now s) ⌝ }
-    ensures { λ r. ⌜ r ≡ looseFrom (now (s .entry)) (spacedAt (now (s .entry)) at) ⌝ }
+    ensures { λ r. ⌜ r ≡ looseForm (now (s .entry)) (spacedAt (now (s .entry)) at) ⌝ }
 {
     match spaced_at(s, at) {
         LayoutNumber::Value(number, to) => {
@@ -172,7 +171,7 @@ fn loose_form(s: &[u8], at: usize) -> LayoutForm
 // What stands behind the word wire: a number, points and the closing bracket.
 fn wire_form(s: &[u8], at: usize) -> LayoutForm
     requires { ⌜ at ≤ length (now s) ⌝ }
-    ensures { λ r. ⌜ r ≡ wireFrom (now (s .entry)) (spacedAt (now (s .entry)) at) ⌝ }
+    ensures { λ r. ⌜ r ≡ wireForm (now (s .entry)) (spacedAt (now (s .entry)) at) ⌝ }
 {
     match spaced_at(s, at) {
         LayoutNumber::Value(number, to) => {
@@ -188,7 +187,7 @@ fn wire_form(s: &[u8], at: usize) -> LayoutForm
 // What stands behind the word track: two numbers and the closing bracket.
 fn track_form(s: &[u8], at: usize) -> LayoutForm
     requires { ⌜ at ≤ length (now s) ⌝ }
-    ensures { λ r. ⌜ r ≡ trackFrom (now (s .entry)) (spacedAt (now (s .entry)) at) ⌝ }
+    ensures { λ r. ⌜ r ≡ trackForm (now (s .entry)) (spacedAt (now (s .entry)) at) ⌝ }
 {
     match spaced_at(s, at) {
         LayoutNumber::Value(track, behind) => match spaced_at(s, behind) {

@@ -3,7 +3,7 @@ use mathlib.Core.Path.{sym, ap, _∙_}
 use borrow.Author.Tests.{not-true, not-false}
 use Rattle.layoutforms.proofs.NumbersRead.{spaced-read}
 use Rattle.layoutforms.proofs.Answers.{loose-left, loose-shut}
-use Rattle.layoutforms.specs.ExactForm.{looseFrom}
+use Rattle.layoutforms.specs.ExactForm.{looseForm}
 use borrow.Author.Needs.{needs}
 use Rattle.layoutforms.proofs.loose_form.Statement.{statement}
 use Rattle.layoutforms.proofs.loose_form.Tie as tie
@@ -27,8 +27,8 @@ returns-2 : tie.Need-returns-2
 returns-2 c = loose-shut _ _ _ _ (sym (c .before .before .before .number .given .1) ∙ c .before .before .before .before .before .spaced-at .ensures) (sym (c .before .shut-at .ensures) ∙ not-false _ (c .if1 .left))
 
 returns-3 : tie.Need-returns-3
-unfolding looseFrom
-returns-3 c = ap (looseFrom _) (sym (c .enum-told .given .1) ∙ c .before .before .spaced-at .ensures)
+unfolding looseForm
+returns-3 c = ap (looseForm _) (sym (c .enum-told .given .1) ∙ c .before .before .spaced-at .ensures)
 
 pub loose-form-spec : {M : Type 1} → statement M
 loose-form-spec =

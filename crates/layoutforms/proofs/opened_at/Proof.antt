@@ -4,7 +4,7 @@ use mathlib.Core.Path.{sym, _∙_}
 use denote.Ref.{now}
 use borrow.Author.Tests.{not-true, not-false}
 use Rattle.layoutforms.proofs.NumbersRead.{byte-read}
-use Rattle.layoutforms.proofs.Answers.{opened-none, opened-shut, opened-some}
+use Rattle.layoutforms.proofs.Answers.{bracket-none, bracket-shut, bracket-some}
 use native.Mathlib.Omega.{arith}
 use borrow.Author.Needs.{needs}
 use Rattle.layoutforms.proofs.opened_at.Statement.{statement}
@@ -16,7 +16,7 @@ byte-is-requires c κs = search needs
 returns : tie.Need-returns
 returns c =
     let a = c .before .before .before .args in
-    opened-none (now (a .s)) (a .at) (sym (c .before .byte-is .ensures) ∙ not-true _ (c .if1 .taken))
+    bracket-none (now (a .s)) (a .at) (sym (c .before .byte-is .ensures) ∙ not-true _ (c .if1 .taken))
 
 add-byte-is : tie.Need-add-byte-is
 add-byte-is c = search needs
@@ -27,7 +27,7 @@ byte-is-requires-2 c κs = search needs
 returns-2 : tie.Need-returns-2
 returns-2 c =
     let a = c .before .before .before .before .before .args in
-    opened-shut (now (a .s)) (a .at) (sym (c .before .before .before .byte-is .ensures) ∙ not-false _ (c .before .before .if1 .left)) (sym (c .before .byte-is2 .ensures) ∙ not-true _ (c .if2 .taken))
+    bracket-shut (now (a .s)) (a .at) (sym (c .before .before .before .byte-is .ensures) ∙ not-false _ (c .before .before .if1 .left)) (sym (c .before .byte-is2 .ensures) ∙ not-true _ (c .if2 .taken))
 
 add-number-at : tie.Need-add-number-at
 add-number-at c = search needs
@@ -41,7 +41,7 @@ returns-3 : tie.Need-returns-3
 returns-3 c =
     let a = c .before .before .before .before .before .before .args in
     c .number-at .ensures
-    ∙ opened-some (now (a .s)) (a .at) (sym (c .before .before .before .before .byte-is .ensures) ∙ not-false _ (c .before .before .before .if1 .left)) (sym (c .before .before .byte-is2 .ensures) ∙ not-false _ (c .before .if2 .left))
+    ∙ bracket-some (now (a .s)) (a .at) (sym (c .before .before .before .before .byte-is .ensures) ∙ not-false _ (c .before .before .before .if1 .left)) (sym (c .before .before .byte-is2 .ensures) ∙ not-false _ (c .before .if2 .left))
 
 pub opened-at-spec : {M : Type 1} → statement M
 opened-at-spec =

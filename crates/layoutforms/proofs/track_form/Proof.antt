@@ -3,7 +3,7 @@ use mathlib.Core.Path.{sym, ap, _∙_}
 use borrow.Author.Tests.{not-true, not-false}
 use Rattle.layoutforms.proofs.NumbersRead.{spaced-read}
 use Rattle.layoutforms.proofs.Answers.{track-no-sum, track-left, track-shut}
-use Rattle.layoutforms.specs.ExactForm.{trackFrom}
+use Rattle.layoutforms.specs.ExactForm.{trackForm}
 use borrow.Author.Needs.{needs}
 use Rattle.layoutforms.proofs.track_form.Statement.{statement}
 use Rattle.layoutforms.proofs.track_form.Tie as tie
@@ -39,8 +39,8 @@ returns-3 : tie.Need-returns-3
 returns-3 c = track-no-sum _ _ _ _ (sym (c .before .before .before .before .track .given .1) ∙ c .before .before .before .before .before .before .spaced-at .ensures) (sym (c .enum-told .given .1) ∙ c .before .before .spaced-at2 .ensures)
 
 returns-4 : tie.Need-returns-4
-unfolding trackFrom
-returns-4 c = ap (trackFrom _) (sym (c .enum-told2 .given .1) ∙ c .before .before .spaced-at .ensures)
+unfolding trackForm
+returns-4 c = ap (trackForm _) (sym (c .enum-told2 .given .1) ∙ c .before .before .spaced-at .ensures)
 
 pub track-form-spec : {M : Type 1} → statement M
 track-form-spec =

@@ -3,7 +3,7 @@ use mathlib.Core.Path.{sym, ap, _∙_}
 use borrow.Author.Tests.{not-true, not-false}
 use Rattle.layoutforms.proofs.NumbersRead.{spaced-read}
 use Rattle.layoutforms.proofs.Answers.{wire-left, wire-shut}
-use Rattle.layoutforms.specs.ExactForm.{wireFrom}
+use Rattle.layoutforms.specs.ExactForm.{wireForm}
 use borrow.Author.Needs.{needs}
 use Rattle.layoutforms.proofs.wire_form.Statement.{statement}
 use Rattle.layoutforms.proofs.wire_form.Tie as tie
@@ -27,8 +27,8 @@ returns-2 : tie.Need-returns-2
 returns-2 c = wire-shut _ _ _ _ (sym (c .before .before .before .number .given .1) ∙ c .before .before .before .before .before .spaced-at .ensures) (sym (c .before .all-points .ensures) ∙ not-false _ (c .if1 .left))
 
 returns-3 : tie.Need-returns-3
-unfolding wireFrom
-returns-3 c = ap (wireFrom _) (sym (c .enum-told .given .1) ∙ c .before .before .spaced-at .ensures)
+unfolding wireForm
+returns-3 c = ap (wireForm _) (sym (c .enum-told .given .1) ∙ c .before .before .spaced-at .ensures)
 
 pub wire-form-spec : {M : Type 1} → statement M
 wire-form-spec =

@@ -1,0 +1,2 @@
+-- The placement that a wire line draws.
+pub mod Drawn

@@ -93,7 +93,7 @@ row-set words row h l (suc i) =
     let n : i ≡ row - 1 → ⊥ = λ q. eqb-false (suc i) row t (omega arith) in
     rw (t, bit-elsewhere words (row - 1) i l n))
 
-getD-zeros : (n i : ℕ) → getD {A = ℕ} (replicate n 0) i 0 ≡ 0
+pub getD-zeros : (n i : ℕ) → getD {A = ℕ} (replicate n 0) i 0 ≡ 0
 getD-zeros zero i = refl
 getD-zeros (suc n) zero = refl
 getD-zeros (suc n) (suc i) = getD-zeros n i

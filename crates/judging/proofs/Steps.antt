@@ -14,7 +14,7 @@ use Rattle.lists.proofs.Places.{mem-at}
 use Rattle.board.specs.declared.Shape.{Shape}
 use Rattle.board.specs.Job.{Job}
 use Rattle.board.specs.Length.{span, extra, worth}
-use Rattle.board.specs.Placement.{placementAt}
+use Rattle.board.specs.Placement.{Placement, placementAt}
 use Rattle.board.specs.Stored.{noNet}
 use Rattle.board.specs.Accepted.{AcceptedJob}
 use Rattle.board.specs.Tests.{isOn}
@@ -23,6 +23,7 @@ use Rattle.sound.specs.Wires.{worthOf}
 use Rattle.sound.proofs.Nets.{worth-of}
 use Rattle.candidates.specs.Placed.{indexFrom}
 use Rattle.candidates.proofs.Eligible.{index-cases}
+use Rattle.drc.specs.Covers.{drawnBy}
 use Rattle.drc.specs.Judge.{endsTrack, isInTurn, isOpening, isUnlined, broken-at}
 use Rattle.drc.specs.Pass.{Summary, emptySummary, addTrack, addWire, addLoose, isNextWire, lowestOf, faultAfter, PassState, unbegun, running, finished, PassStep, passes-on, decides, judgedTrack, orBroken, passInTurn, passLine}
 use Rattle.judging.specs.declared.LinesJudged.{LinesJudged}
@@ -66,6 +67,14 @@ turn-range k n u i j h t e z =
     let b = and-split (eqb (j .last) 0) (eqb u (j .track + 1) && leb u k) (a .1) in
     let c = leb-true u k (and-split (eqb u (j .track + 1)) (leb u k) (b .1) .1) in
     record { track-range = omega (arith, c); sum-range = omega (arith, z) }
+
+-- the track of a wire that can stand is one of the board
+pub wire-range : (k : ℕ) (j : LinesJudged) → isWireTurn k j ≡ true → (1 ≤ j .track) × (j .track ≤ k)
+wire-range k j t =
+    let a = and-split (eqb (j .stage) 1) (eqb (j .last) 0 && leb 1 (j .track) && leb (j .track) k) t in
+    let b = and-split (eqb (j .last) 0 && leb 1 (j .track)) (leb (j .track) k) (a .1) in
+    let c = and-split (eqb (j .last) 0) (leb 1 (j .track)) (b .0) in
+    (leb-true 1 (j .track) (c .1), leb-true (j .track) k (b .1))
 
 -- ---- the opening line
 
@@ -207,6 +216,19 @@ module _ (job : Job) (n : ℕ) (j : LinesJudged) (stands : List ℕ) where
       (λ m e′ h.
       let on = settled-on job m j stands h (orBroken n (allOf (isOn (m .lined)) (job .nets)) (passes-on finished)) d in
       rw (in-turn job n m closes e′, on .0, lined-same (isOn (m .lined)) (job .nets) stands (h .lines-are (on .1) .lined-at), t) (refl, refl))
+
+  -- ---- a wire line, where it can stand
+
+  pub wire-taken : (st : PassState) (w : Wire) (o : Option Placement) (i : LinesJudged) (after : List ℕ) → canStand job st (wire w) ≡ true →
+      KeepsState job st j stands → drawnBy job (j .track) w ≡ o →
+      ((m : Summary) → KeepsSummary job m j stands → KeepsSummary job (addWire job n w o m) i after) →
+      KeepsStep job (passLine job n st (wire w)) i after
+  unfolding isOpening passInTurn
+  wire-taken st w o i after e k d f =
+      runs st (wire w) refl e k (λ x. KeepsStep job (passLine job n x (wire w)) i after)
+      (λ m e′ h.
+      let drawn : drawnBy job (m .track) w ≡ o = ap (λ (t : ℕ). drawnBy job t w) (h .track-is) ∙ d in
+      rw (in-turn job n m (wire w) e′, drawn) (f m h))
 
   -- ---- a loose line
 

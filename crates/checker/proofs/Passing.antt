@@ -173,7 +173,7 @@ answer-end job a s v e = ap verdictAnswer (sym e ∙ one-pass job a s)
 -- the end of the text
 
 pub ends-sound : (job : Job) (st : PassState) (j : LinesJudged) (stands : List ℕ) (n : ℕ) → KeepsState job st j stands → j .stage ≡ 2 →
-    Is.Sound ≡ verdictAnswer (passEnd n st)
+    Is.Passes ≡ verdictAnswer (passEnd n st)
 unfolding verdictAnswer passEnd
 ends-sound job unbegun j stands n k e = let z : _≡_ {A = ℕ} 0 2 = sym (k .0) ∙ e in absurd (omega arith)
 ends-sound job (running m) j stands n k e = let z : _≡_ {A = ℕ} 1 2 = sym (k .stage-is) ∙ e in absurd (omega arith)

@@ -8,7 +8,7 @@ use Rattle.jobfile.specs.Read.{Read, accepted, refused}
 use Rattle.jobfile.specs.Answers.{numberOf, lineOf}
 use Rattle.drc.specs.Judge.{Verdict, sound-text, broken-at, judge}
 use Rattle.checker.specs.declared.CheckAnswer.{CheckAnswer}
-use Rattle.checker.specs.declared.CheckAnswer.the-variants.{Refused, LayoutTooLong, Sound, Broken}
+use Rattle.checker.specs.declared.CheckAnswer.the-variants.{Refused, LayoutTooLong, Passes, Broken}
 
 -- what an answer says in the document's words: the number of a refusal, 0 where nothing is refused; whether the layout is broken; and the
 -- line that is named, 0 where none is. Sound is neither refused nor broken
@@ -21,12 +21,12 @@ pub record CheckValues : Type 0 where
 abbrev pub checkValues : CheckAnswer → CheckValues
 checkValues (Refused o) = record { number = numberOf o; broken = false; line = lineOf o }
 checkValues LayoutTooLong = record { number = 11; broken = false; line = 0 }
-checkValues Sound = record { number = 0; broken = false; line = 0 }
+checkValues Passes = record { number = 0; broken = false; line = 0 }
 checkValues (Broken l) = record { number = 0; broken = true; line = l }
 
 -- the answer for a verdict
 unfoldable pub verdictAnswer : Verdict → CheckAnswer
-verdictAnswer sound-text = Sound
+verdictAnswer sound-text = Passes
 verdictAnswer (broken-at l) = Broken l
 
 -- the answer, by what the job file is read as and the layout text: refused as read does for the job, then 11 if the text is above 64,000

@@ -36,7 +36,7 @@ pub enum CheckAnswer {
     Refused(Outcome),
     // refusal 11: the layout text is above 64,000 bytes
     LayoutTooLong,
-    Sound,
+    Passes,
     // broken at a line
     Broken(usize),
 }
@@ -55,7 +55,7 @@ pub fn check_number(answer: CheckAnswer) -> usize
     match answer {
         CheckAnswer::Refused(outcome) => jobrules::number_of(outcome),
         CheckAnswer::LayoutTooLong => 11,
-        CheckAnswer::Sound => 0,
+        CheckAnswer::Passes => 0,
         CheckAnswer::Broken(_) => 0,
     }
 }
@@ -67,7 +67,7 @@ pub fn is_broken(answer: CheckAnswer) -> bool
     match answer {
         CheckAnswer::Refused(_) => false,
         CheckAnswer::LayoutTooLong => false,
-        CheckAnswer::Sound => false,
+        CheckAnswer::Passes => false,
         CheckAnswer::Broken(_) => true,
     }
 }
@@ -79,7 +79,7 @@ pub fn check_line(answer: CheckAnswer) -> usize
     match answer {
         CheckAnswer::Refused(outcome) => jobrules::line_of(outcome),
         CheckAnswer::LayoutTooLong => 0,
-        CheckAnswer::Sound => 0,
+        CheckAnswer::Passes => 0,
         CheckAnswer::Broken(line) => line,
     }
 }
@@ -201,7 +201,7 @@ fn finish(m: LinesJudged, line: usize) -> CheckAnswer
     ensures { λ r. ⌜ ((job : Job) (st : PassState) (stands : List ℕ) → KeepsState job st m stands → r ≡ verdictAnswer (passEnd line st)) ⌝ }
 {
     if m.stage == 2 {
-        return CheckAnswer::Sound;
+        return CheckAnswer::Passes;
     }
     let closed = judging::closed(m, line);
     CheckAnswer::Broken(closed.fault)

@@ -1,10 +1,9 @@
 // Files read whole.
-ghost use Prim.Native.Nat.{_≤_};
-ghost use lib.ListN.{length};
+ghost use Rattle.io.specs.Counts.{Counts};
 
 // Reads a file into a buffer, as far as it fits, and returns the bytes read. A file that can't be opened counts as empty.
 pub fn read_file(path: &[u8], out: &mut [u8]) -> usize
-    ensures { λ r. ⌜ r ≤ length (now (out .exit)) ⌝ }
+    ensures { λ r. ⌜ Counts r (now (out .exit)) ⌝ }
 {
     let fd = os::open_read(path);
     if fd < 0 {

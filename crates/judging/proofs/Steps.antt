@@ -14,7 +14,7 @@ use Rattle.lists.proofs.Places.{mem-at}
 use Rattle.board.specs.declared.Shape.{Shape}
 use Rattle.board.specs.Job.{Job}
 use Rattle.board.specs.Length.{span, extra, worth}
-use Rattle.board.specs.Placement.{Placement, placementAt}
+use Rattle.board.specs.Placement.{Placement, placementAt, covered}
 use Rattle.board.specs.Stored.{noNet}
 use Rattle.board.specs.Accepted.{AcceptedJob}
 use Rattle.board.specs.Tests.{isOn}
@@ -30,7 +30,7 @@ use Rattle.judging.specs.declared.LinesJudged.{LinesJudged}
 use Rattle.judging.specs.declared.NetFound.{NetFound}
 use Rattle.judging.specs.Judged.{faultOf, NetLines, KeepsSummary, KeepsState, KeepsStep, JudgedInRange, LineInRange}
 use Rattle.judging.specs.Values.{isNumbered, allLined, isNextAt, firstFault, notBegun, brokenOff, closedOf, settledOf, isTrackTurn, isWireTurn, isEndTurn, NetIs, NetFits, MapIs}
-use Rattle.judging.proofs.ValueTests.{closed-here, closed-above, settled-sum, settled-wire, settled-kept, fault-before, fault-still-none, fault-here}
+use Rattle.judging.proofs.ValueTests.{closed-here, closed-above, settled-sum, settled-wire, settled-kept, lowest-row, fault-before, fault-still-none, fault-here}
 use Rattle.judging.proofs.Turns.{fault-none, fault-some, closed-stage, canStand, closes-off, track-place, wire-place, loose-place, closing-place, settled-off, settled-on}
 use Rattle.judging.proofs.LinedNets.{lined-same}
 use Rattle.judging.proofs.Indexes.{index-number}
@@ -363,7 +363,7 @@ module _ (job : Job) (n : ℕ) (line : LineInRange n) (s : Summary) (w : Wire) (
     new-net t = eqb-true (getD stands (found .index) 0) 0 (next-new (job .board) words stands found j top shape t)
 
     -- that draws its net in a shape with its top at a row
-    pub drawn-added : KeepsSummary job s j stands →
+    drawn-added : KeepsSummary job s j stands →
         KeepsSummary job (addWire job n w (some (placementAt (found .net) shape top)) s)
         (behindWire (worth (job .board) (found .net)) (top + span (found .net) + extra shape) (firstFault (j .fault) next n))
         (set stands (found .index) (j .track))
@@ -388,3 +388,9 @@ module _ (job : Job) (n : ℕ) (line : LineInRange n) (s : Summary) (w : Wire) (
               (line-added job a s (addWire job n w (some (placementAt (found .net) shape top)) s) stands (found .index) (w .number) refl refl refl
               (is .index-range) (ap (λ q. q .number) (is .net-is) ∙ numbered) (new-net (p .1)) (omega (arith, begun, on)) (h .lines-are (p .0)));
         }
+
+    -- the same of what the code works out
+    pub drawn-kept : (more lowest fault : ℕ) → more ≡ worth (job .board) (found .net) → lowest ≡ top + covered (found .net) shape - 1 →
+        fault ≡ firstFault (j .fault) next n → KeepsSummary job s j stands →
+        KeepsSummary job (addWire job n w (some (placementAt (found .net) shape top)) s) (behindWire more lowest fault) (set stands (found .index) (j .track))
+    drawn-kept more lowest fault e f g h = rw (e, f ∙ lowest-row top (found .net) shape, g) (drawn-added h)

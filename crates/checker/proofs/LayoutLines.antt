@@ -1,20 +1,18 @@
 -- The lines that are left of a layout text behind a step are those that the definitions read. Assumes nothing.
 use Prim.Native.Nat.{ℕ, suc, _+_, _-_, _≤_, _<_, min}
-use mathlib.Core.Path.{_≡_, refl, sym, ap, ap₂, _∙_}
-use mathlib.Core.Bool.{true, false, not}
-use mathlib.Core.Option.{Option, none, some}
+use mathlib.Core.Path.{_≡_, refl, sym, ap, _∙_}
+use mathlib.Core.Bool.{true}
+use mathlib.Core.Option.{none}
 use mathlib.Core.List.{List, [], _∷_, _++_}
 use native.Mathlib.Omega.{arith}
 use native.Mathlib.Decide.{decLt}
-use lib.Dec.{eqb}
 use lib.ListN.{length, getD, take, drop, length-drop, drop-of-length-le}
 use lib.Seq.{take-all, split-at, drop-drop}
 use borrow.Author.Tests.{eq-eqb, ne-eqb, eqb-true}
 use Rattle.lists.specs.Lists.{allOf}
-use Rattle.text.specs.Bytes.{isEnd, pieces, lines}
+use Rattle.text.specs.Bytes.{isEnd, pieces}
 use Rattle.lines.specs.Places.{until, scan, lineEnd, stepAt}
 use Rattle.lines.specs.declared.Place.{Place}
-use Rattle.lines.specs.declared.Step.{Step}
 use Rattle.lines.specs.declared.Step.the-variants.{Line, End}
 use Rattle.lines.proofs.Scans.{until-le, until-before, until-at}
 use Rattle.lines.proofs.Steps.{step-line, step-end, end-of-lines}

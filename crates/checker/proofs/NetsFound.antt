@@ -1,6 +1,6 @@
 -- The net that a line is of, looked up in a job by value. Assumes nothing.
-use Prim.Native.Nat.{ℕ, suc, _+_, _-_, _≤_, _<_}
-use mathlib.Core.Path.{_≡_, refl, sym, ap, subst, _∙_}
+use Prim.Native.Nat.{ℕ, _-_, _≤_, _<_}
+use mathlib.Core.Path.{_≡_, sym, ap, _∙_}
 use mathlib.Core.List.{List, map}
 use native.Mathlib.Omega.{arith}
 use lib.ListN.{length, getD, take, replicate, length-map}
@@ -8,11 +8,10 @@ use lib.Seq.{take-append-seam, getD-take, length-take-le}
 use Rattle.board.specs.declared.Net.{Net}
 use Rattle.board.specs.declared.StoredJob.{StoredJob}
 use Rattle.board.specs.Stored.{jobOf, noNet, AcceptedStored}
-use Rattle.board.specs.Accepted.{AcceptedNet}
 use Rattle.candidates.specs.Placed.{padded, indexFrom, precedingOf}
 use Rattle.candidates.proofs.NetBefore.{index-range, net-accepted, before-at, before-range}
 use Rattle.judging.specs.declared.NetFound.{NetFound}
-use Rattle.judging.specs.Values.{isNumbered, NetIs}
+use Rattle.judging.specs.Values.{isNumbered}
 use Rattle.judging.proofs.Indexes.{index-number}
 use Rattle.checker.specs.Found.{IsFound, FoundFits, FoundFor}
 

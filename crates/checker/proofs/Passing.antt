@@ -1,11 +1,9 @@
 -- The loop of check: the lines that are left decide. Assumes nothing.
-use Prim.Native.Nat.{ℕ, suc, _+_, _-_, _≤_, _<_}
-use mathlib.Core.Path.{_≡_, refl, sym, ap, ap₂, subst, _∙_}
-use mathlib.Core.Bool.{true, false}
-use mathlib.Core.Option.{Option, none, some}
-use mathlib.Core.List.{List, [], _∷_}
+use Prim.Native.Nat.{ℕ, suc, _+_, _-_, _≤_}
+use mathlib.Core.Path.{_≡_, refl, sym, ap, _∙_}
+use mathlib.Core.List.{List}
 use native.Mathlib.Omega.{arith}
-use lib.ListN.{length, getD, take, drop, replicate}
+use lib.ListN.{length, take, drop, replicate}
 use Rattle.board.specs.Job.{Job, blocked}
 use Rattle.blockmap.specs.Bits.{isSet}
 use Rattle.blockmap.proofs.RowBits.{getD-zeros}
@@ -15,19 +13,18 @@ use Rattle.lines.specs.Stepped.{Stepped}
 use Rattle.lines.specs.declared.Place.{Place}
 use Rattle.lines.specs.declared.Step.{Step}
 use Rattle.lines.specs.declared.Step.the-variants.{Line, End}
-use Rattle.lines.proofs.Steps.{stepped, end-of-lines}
+use Rattle.lines.proofs.Steps.{stepped}
 use Rattle.layout.specs.Tree as Tree
 use Rattle.layoutforms.specs.declared.LayoutForm.{LayoutForm}
 use Rattle.layoutforms.specs.LayoutForms.{layoutFormOf}
 use Rattle.drc.specs.Standing.{linesRead}
-use Rattle.drc.specs.Judge.{Verdict, sound-text, broken-at, judge}
+use Rattle.drc.specs.Judge.{Verdict, broken-at, judge}
 use Rattle.drc.specs.Pass.{PassState, unbegun, running, finished, PassStep, passes-on, decides, passIllFormed, passStep, passEnd, afterStep, passFrom, passOver}
 use Rattle.drc.proofs.OnePass.{one-pass}
 use Rattle.judging.specs.declared.LinesJudged.{LinesJudged}
-use Rattle.judging.specs.Judged.{KeepsState, KeepsStep, JudgedInRange, LineInRange}
+use Rattle.judging.specs.Judged.{KeepsState, KeepsStep, JudgedInRange}
 use Rattle.judging.specs.Values.{notBegun, closedOf, MapIs}
 use Rattle.judging.proofs.Turns.{closes-ill-formed}
-use Rattle.checker.specs.declared.LayoutStep.{LayoutStep}
 use Rattle.checker.specs.declared.LayoutStep.the-variants as At
 use Rattle.checker.specs.declared.CheckAnswer.the-variants as Is
 use Rattle.checker.specs.LayoutSteps.{lineRead, layoutOn, layoutStep, LineIs}

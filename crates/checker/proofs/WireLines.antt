@@ -1,12 +1,10 @@
 -- What a wire line draws, where its net is known and where it is not. Assumes nothing.
 use Prim.Native.Nat.{ℕ, _≤_, _<_}
 use mathlib.Core.Path.{_≡_, refl, sym, ap, subst, _∙_}
-use mathlib.Core.Bool.{true, false, cond, _&&_, true≢false}
+use mathlib.Core.Bool.{true, false, _&&_, true≢false}
 use mathlib.Core.Option.{Option, none, some}
 use mathlib.Core.List.{List, List·Memᴰ}
 use native.Mathlib.Omega.{arith}
-use lib.Dec.{eqb, leb}
-use lib.ListN.{length, getD}
 use borrow.Author.Tests.{leb-true, eq-eqb}
 use Rattle.lists.proofs.Cases.{by-option, and-split}
 use Rattle.lists.proofs.Places.{mem-at}
@@ -28,11 +26,9 @@ use Rattle.layout.proofs.RoundTrip.{only-some}
 use Rattle.sound.specs.Wires.{worthBy, worthOf}
 use Rattle.sound.proofs.Nets.{net-some, net-of, worth-of}
 use Rattle.drc.specs.Covers.{samePoints, isOnBoard, drawnOf, drawnFrom, drawnBy}
-use Rattle.drawnwires.specs.declared.DrawnPlace.{DrawnPlace}
 use Rattle.drawnwires.specs.declared.DrawnPlace.the-variants.{Nothing, At}
 use Rattle.drawnwires.specs.DrawnPlaces.{placeOf}
 use Rattle.judging.specs.declared.NetFound.{NetFound}
-use Rattle.judging.specs.Values.{isNumbered, NetIs}
 use Rattle.judging.proofs.Indexes.{index-number, index-none}
 use Rattle.checker.specs.Found.{IsFound, FoundFor}
 

@@ -1,15 +1,15 @@
 -- One more net with a line, by value; and the test of a wire drawn on values is that of the definitions. Assumes nothing.
 use Prim.Native.Nat.{ℕ, zero, suc, _+_, _-_, _≤_, _<_}
 use mathlib.Core.Path.{_≡_, refl, sym, ap, subst, _∙_}
-use mathlib.Core.Bool.{Bool, true, false, not, cond, _&&_, _||_, and-true, and-false, true≢false}
-use mathlib.Core.Option.{none, some}
+use mathlib.Core.Bool.{Bool, true, false, not, cond, _&&_, _||_, and-true, and-false}
+use mathlib.Core.Option.{some}
 use mathlib.Core.List.{List, [], _∷_, _++_, map, List·Memᴰ, List·Memᴰ·head, List·Memᴰ·tail}
 use native.Mathlib.Omega.{arith}
-use lib.Dec.{eqb, leb, ltb}
+use lib.Dec.{eqb, ltb}
 use lib.ListN.{length, getD, set, length-set, length-map}
 use lib.Seq.{getD-set-same, getD-set-other}
-use borrow.Author.Tests.{eq-eqb, ne-eqb, eqb-true, eqb-false, lt-ltb, le-ltb, not-true}
-use Rattle.lists.specs.Lists.{Each, EachPair, anyOf, allOf}
+use borrow.Author.Tests.{eq-eqb, ne-eqb, eqb-true, eqb-false, le-ltb}
+use Rattle.lists.specs.Lists.{Each, EachPair, anyOf}
 use Rattle.lists.proofs.Laws.{Each-at, mem-anyOf}
 use Rattle.lists.proofs.Cases.{by-test, and-split}
 use Rattle.lists.proofs.Places.{mem-at, map-at}
@@ -18,7 +18,7 @@ use Rattle.board.specs.declared.Net.{Net}
 use Rattle.board.specs.declared.Shape.{Shape}
 use Rattle.board.specs.Job.{Job}
 use Rattle.board.specs.Length.{span, extra}
-use Rattle.board.specs.Placement.{placementAt, covered, bottom}
+use Rattle.board.specs.Placement.{placementAt, covered}
 use Rattle.board.specs.Stored.{noNet}
 use Rattle.board.specs.Accepted.{AcceptedJob}
 use Rattle.board.specs.Tests.{isOn, isBefore, isLong, isShort, isClear, isReady}
@@ -31,7 +31,7 @@ use Rattle.drc.specs.Judge.{isSoundPlace, isUnlined}
 use Rattle.drc.specs.Pass.{Summary, isNextWire}
 use Rattle.judging.specs.declared.LinesJudged.{LinesJudged}
 use Rattle.judging.specs.declared.NetFound.{NetFound}
-use Rattle.judging.specs.Judged.{NetLines, KeepsSummary}
+use Rattle.judging.specs.Judged.{NetLines}
 use Rattle.judging.proofs.Indexes.{index-number, index-none}
 use Rattle.judging.specs.Values.{isNumbered, isAllowed, readyAt, isNextAt, NetIs, MapIs}
 

@@ -1,20 +1,20 @@
 -- What each line leads to, by value, is what it leads to in the pass. Assumes nothing.
-use Prim.Native.Nat.{ℕ, zero, suc, _+_, _-_, _*_, _≤_, _<_}
+use Prim.Native.Nat.{ℕ, suc, _+_, _-_, _≤_, _<_}
 use mathlib.Core.Path.{_≡_, refl, sym, ap, ap₂, subst, _∙_}
-use mathlib.Core.Bool.{Bool, true, false, not, cond, _&&_, and-true, true≢false, false≢true}
+use mathlib.Core.Bool.{Bool, true, false, not, _&&_, and-true, true≢false, false≢true}
 use mathlib.Core.Option.{Option, none, some}
 use mathlib.Core.List.{List, List·Memᴰ}
 use native.Mathlib.Omega.{arith}
 use lib.Dec.{eqb, leb, ltb}
 use lib.ListN.{length, getD, set}
-use borrow.Author.Tests.{eq-eqb, ne-eqb, eqb-true, eqb-false, leb-true, lt-ltb, not-true}
+use borrow.Author.Tests.{eq-eqb, eqb-true, eqb-false, leb-true, lt-ltb, not-true}
 use Rattle.lists.specs.Lists.{anyOf, allOf}
 use Rattle.lists.proofs.Cases.{by-test, and-split}
 use Rattle.lists.proofs.Places.{mem-at}
 use Rattle.board.specs.declared.Shape.{Shape}
 use Rattle.board.specs.Job.{Job}
 use Rattle.board.specs.Length.{span, extra, worth}
-use Rattle.board.specs.Placement.{Placement, placementAt}
+use Rattle.board.specs.Placement.{Placement, placementAt, covered}
 use Rattle.board.specs.Stored.{noNet}
 use Rattle.board.specs.Accepted.{AcceptedJob}
 use Rattle.board.specs.Tests.{isOn}
@@ -22,16 +22,15 @@ use Rattle.layout.specs.Tree.{Wire, Line, opens, track, wire, loose, closes}
 use Rattle.sound.specs.Wires.{worthOf}
 use Rattle.sound.proofs.Nets.{worth-of}
 use Rattle.candidates.specs.Placed.{indexFrom}
-use Rattle.candidates.proofs.Eligible.{index-cases}
 use Rattle.drc.specs.Covers.{drawnBy}
-use Rattle.drc.specs.Judge.{endsTrack, isInTurn, isOpening, isUnlined, broken-at}
-use Rattle.drc.specs.Pass.{Summary, emptySummary, addTrack, addWire, addLoose, isNextWire, lowestOf, faultAfter, PassState, unbegun, running, finished, PassStep, passes-on, decides, judgedTrack, orBroken, passInTurn, passLine}
+use Rattle.drc.specs.Judge.{endsTrack, isInTurn, isOpening, isUnlined}
+use Rattle.drc.specs.Pass.{Summary, addTrack, addWire, addLoose, isNextWire, lowestOf, faultAfter, PassState, unbegun, running, finished, passes-on, orBroken, passInTurn, passLine}
 use Rattle.judging.specs.declared.LinesJudged.{LinesJudged}
 use Rattle.judging.specs.declared.NetFound.{NetFound}
 use Rattle.judging.specs.Judged.{faultOf, NetLines, KeepsSummary, KeepsState, KeepsStep, JudgedInRange, LineInRange}
-use Rattle.judging.specs.Values.{isNumbered, allLined, isNextAt, firstFault, notBegun, brokenOff, closedOf, settledOf, isTrackTurn, isWireTurn, isEndTurn, NetIs, NetFits, MapIs}
-use Rattle.judging.proofs.ValueTests.{closed-here, closed-above, settled-sum, settled-wire, settled-kept, fault-before, fault-still-none, fault-here}
-use Rattle.judging.proofs.Turns.{fault-none, fault-some, closed-stage, canStand, closes-off, track-place, wire-place, loose-place, closing-place, settled-off, settled-on}
+use Rattle.judging.specs.Values.{isNumbered, allLined, isNextAt, firstFault, brokenOff, closedOf, settledOf, isTrackTurn, isWireTurn, NetIs, MapIs}
+use Rattle.judging.proofs.ValueTests.{closed-here, closed-above, settled-sum, settled-wire, settled-kept, lowest-row, fault-before, fault-still-none, fault-here}
+use Rattle.judging.proofs.Turns.{fault-none, fault-some, canStand, closes-off, settled-off, settled-on}
 use Rattle.judging.proofs.LinedNets.{lined-same}
 use Rattle.judging.proofs.Indexes.{index-number}
 use Rattle.judging.proofs.LinesAdded.{line-added, unlined-same, next-same, next-new}
@@ -363,7 +362,7 @@ module _ (job : Job) (n : ℕ) (line : LineInRange n) (s : Summary) (w : Wire) (
     new-net t = eqb-true (getD stands (found .index) 0) 0 (next-new (job .board) words stands found j top shape t)
 
     -- that draws its net in a shape with its top at a row
-    pub drawn-added : KeepsSummary job s j stands →
+    drawn-added : KeepsSummary job s j stands →
         KeepsSummary job (addWire job n w (some (placementAt (found .net) shape top)) s)
         (behindWire (worth (job .board) (found .net)) (top + span (found .net) + extra shape) (firstFault (j .fault) next n))
         (set stands (found .index) (j .track))
@@ -388,3 +387,9 @@ module _ (job : Job) (n : ℕ) (line : LineInRange n) (s : Summary) (w : Wire) (
               (line-added job a s (addWire job n w (some (placementAt (found .net) shape top)) s) stands (found .index) (w .number) refl refl refl
               (is .index-range) (ap (λ q. q .number) (is .net-is) ∙ numbered) (new-net (p .1)) (omega (arith, begun, on)) (h .lines-are (p .0)));
         }
+
+    -- the same of what the code works out
+    pub drawn-kept : (more lowest fault : ℕ) → more ≡ worth (job .board) (found .net) → lowest ≡ top + covered (found .net) shape - 1 →
+        fault ≡ firstFault (j .fault) next n → KeepsSummary job s j stands →
+        KeepsSummary job (addWire job n w (some (placementAt (found .net) shape top)) s) (behindWire more lowest fault) (set stands (found .index) (j .track))
+    drawn-kept more lowest fault e f g h = rw (e, f ∙ lowest-row top (found .net) shape, g) (drawn-added h)

@@ -1,21 +1,20 @@
 -- Where a pass stands by value: which line can stand there, where the judging closes, and where the wires of a track end. Assumes nothing.
-use Prim.Native.Nat.{ℕ, zero, suc, _+_, _≤_, _<_}
+use Prim.Native.Nat.{ℕ, zero, suc, _+_}
 use mathlib.Core.Path.{_≡_, refl, sym, ap, _∙_}
-use mathlib.Core.Bool.{Bool, true, false, not, cond, _&&_, true≢false, false≢true}
-use mathlib.Core.Option.{Option, none, some}
+use mathlib.Core.Bool.{Bool, false}
+use mathlib.Core.Option.{none, some}
 use mathlib.Core.List.{List}
 use native.Mathlib.Omega.{arith}
-use native.Mathlib.Numerals.{add-one}
-use lib.Dec.{eqb, leb, ltb}
-use borrow.Author.Tests.{eq-eqb, ne-eqb, eqb-true, eqb-false}
-use Rattle.lists.proofs.Cases.{by-test, and-split}
+use lib.Dec.{eqb}
+use borrow.Author.Tests.{eqb-true, eqb-false}
+use Rattle.lists.proofs.Cases.{by-test}
 use Rattle.board.specs.Job.{Job}
-use Rattle.layout.specs.Tree.{Wire, Line, opens, track, wire, loose, closes}
-use Rattle.drc.specs.Judge.{endsTrack, isInTurn, isOpening, Verdict, broken-at}
-use Rattle.drc.specs.Pass.{Summary, PassState, unbegun, running, finished, PassStep, passes-on, decides, closedAt, unlessFault, judgedTrack, orBroken, passInTurn, passLine, passIllFormed, passStep, passEnd}
+use Rattle.layout.specs.Tree.{Wire, Line, track, wire, loose, closes}
+use Rattle.drc.specs.Judge.{endsTrack, isInTurn, isOpening, broken-at}
+use Rattle.drc.specs.Pass.{Summary, PassState, unbegun, running, finished, PassStep, decides, closedAt, unlessFault, judgedTrack, orBroken, passLine, passIllFormed}
 use Rattle.judging.specs.declared.LinesJudged.{LinesJudged}
 use Rattle.judging.specs.Judged.{faultOf, KeepsSummary, KeepsState, KeepsStep}
-use Rattle.judging.specs.Values.{brokenOff, closedOf, settledOf, isTrackTurn, isWireTurn, isEndTurn}
+use Rattle.judging.specs.Values.{closedOf, settledOf, isTrackTurn, isWireTurn, isEndTurn}
 use Rattle.judging.proofs.ValueTests.{closed-here, closed-above, settled-sum, settled-wire, settled-kept}
 
 -- ---- the line of a fault

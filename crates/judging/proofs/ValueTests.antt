@@ -1,7 +1,7 @@
 -- The tests of a line on values, one test after another. Assumes nothing.
-use Prim.Native.Nat.{ℕ, _+_, _≤_, _<_, max}
+use Prim.Native.Nat.{ℕ, _+_, _-_, _≤_, _<_, max}
 use native.Mathlib.Omega.{arith}
-use mathlib.Core.Path.{_≡_, refl, sym, ap, _∙_}
+use mathlib.Core.Path.{_≡_}
 use mathlib.Core.Bool.{Bool, true, false, not, _&&_, and-false}
 use mathlib.Core.List.{List}
 use lib.Dec.{eqb, leb, ltb}
@@ -10,7 +10,7 @@ use borrow.Author.Tests.{eq-eqb, ne-eqb, le-leb, lt-leb, le-ltb, lt-ltb}
 use Rattle.board.specs.declared.Board.{Board}
 use Rattle.board.specs.declared.Net.{Net}
 use Rattle.board.specs.declared.Shape.{Shape}
-use Rattle.board.specs.Length.{lengthOf, lower, extra}
+use Rattle.board.specs.Length.{lengthOf, lower, span, extra}
 use Rattle.board.specs.Placement.{covered}
 use Rattle.blockmap.specs.Clear.{allUnset}
 use Rattle.judging.specs.declared.LinesJudged.{LinesJudged}
@@ -110,6 +110,11 @@ fits-covered board found top s f =
     let n = f .net-range .in-range in
     let w : lower (found .net) ≤ max (found .net .left .0) (found .net .right .0) = unfold lower in (omega arith) in
     (omega arith, omega (arith, f .to-last), omega (arith, f .to-last))
+
+-- the lowest row is that of the placement
+pub lowest-row : (top : ℕ) (n : Net) (s : Shape) → top + covered n s - 1 ≡ top + span n + extra s
+unfolding covered
+lowest-row top n s = omega arith
 
 -- ---- the line of the first broken wire
 

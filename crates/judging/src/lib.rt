@@ -345,11 +345,13 @@ pub fn add_drawn(
     let passed = may_stand(board, found, words, stands, m, top, shape);
     let fault = first_fault(m.fault, passed, line);
     stands[index] = m.track;
-    let bottom = top.0 + board::span(net) + board::extra(shape);
+    let rows = board::covered(net, shape);
+    let lowest = top.0 + rows - 1;
     let worth = board::worth(board, net);
+    let sum = m.sum + worth;
     LinesJudged {
-        sum: m.sum + worth,
-        lowest: bottom,
+        sum,
+        lowest,
         fault,
         ..m
     }

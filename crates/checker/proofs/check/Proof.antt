@@ -25,7 +25,7 @@ returns c =
 
 returns-2 : tie.Need-returns-2
 returns-2 c =
-    answer-long _ _ _ (given-read _ _ _ (c .before .before .before .read .ensures .0) (c .before .before .number-of .ensures) (c .before .if1 .left)) (c .if2 .taken)
+    answer-long _ _ _ (given-read _ _ _ (c .before .before .before .read .ensures .0) (c .before .before .number-of .ensures) (c .before .if1 .left)) (omega (arith, c .if2 .taken))
 
 numbers-of-requires : tie.Need-numbers-of-requires
 numbers-of-requires c κs =

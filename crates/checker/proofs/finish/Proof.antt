@@ -1,5 +1,6 @@
 -- `checker::finish` meets its contract. Assumes nothing.
-use mathlib.Core.Path.{ap, _∙_}
+use mathlib.Core.Path.{_≡_, ap, _∙_}
+use native.Mathlib.Omega.{arith}
 use Rattle.judging.specs.declared.LinesJudged.{LinesJudged}
 use Rattle.checker.specs.declared.CheckAnswer.the-variants as Is
 use Rattle.checker.proofs.Passing.{ends-sound, ends-early}
@@ -9,7 +10,8 @@ use Rattle.checker.proofs.finish.Tie as tie
 
 returns : tie.Need-returns
 returns c =
-    λ job st stands k. ends-sound job st _ stands _ k (c .if1 .taken)
+    let a = c .before .before .args in
+    λ job st stands k. ends-sound job st (a .m) stands (a .line) k (omega (arith, c .if1 .taken))
 
 closed-requires : tie.Need-closed-requires
 closed-requires c κs = search needs
@@ -17,7 +19,7 @@ closed-requires c κs = search needs
 returns-2 : tie.Need-returns-2
 returns-2 c =
     let a = c .before .before .before .args in
-    λ job st stands k. ap (λ (j : LinesJudged). Is.Broken (j .fault)) (c .closed .ensures) ∙ ends-early job st (a .m) stands (a .line) k (c .before .if1 .left)
+    λ job st stands k. ap (λ (j : LinesJudged). Is.Broken (j .fault)) (c .closed .ensures) ∙ ends-early job st (a .m) stands (a .line) k (λ (e : a .m .stage ≡ 2). omega (arith, c .before .if1 .left))
 
 pub finish-spec : {M : Type 1} → statement M
 finish-spec = tie.close (tie.spec returns closed-requires returns-2)

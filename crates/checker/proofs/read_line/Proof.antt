@@ -1,7 +1,10 @@
 -- `checker::read_line` meets its contract. Assumes nothing.
-use mathlib.Core.Path.{sym, ap, _∙_}
+use mathlib.Core.Path.{_≡_, sym, ap, _∙_}
 use native.Mathlib.Omega.{arith}
+use Rattle.lines.specs.declared.Step.the-variants.{Line}
 use Rattle.lines.proofs.Steps.{stepped}
+use Rattle.layoutforms.specs.declared.LayoutForm.the-variants as Is
+use Rattle.checker.specs.declared.LayoutStep.the-variants as At
 use Rattle.checker.specs.LayoutSteps.{layoutOn, layoutStep}
 use Rattle.checker.proofs.LineForms.{step-open, step-ended}
 use borrow.Author.Needs.{needs}
@@ -17,7 +20,13 @@ enum-known-from c = search needs
 returns : tie.Need-returns
 unfolding layoutStep
 returns c =
-    step-open _ _ _ _ (c .if1 .taken) ∙ (ap (layoutOn _) (sym (c .before .before .before .from .given .1) ∙ c .before .before .before .before .before .next-line .ensures))
+    let k = c .before .before .before in
+    let s = k .before .before .before .before .args .s .now in
+    let from = k .from .given .0 .0 in
+    let to = k .from .given .0 .1 .0 in
+    let next = k .from .given .0 .1 .1 .0 in
+    let unended : At.Read Is.Other from to next ≡ layoutOn s (Line from to next) = step-open s from to next (omega (arith, c .if1 .taken)) in
+    unended ∙ ap (layoutOn s) (sym (k .from .given .1) ∙ k .before .before .next-line .ensures)
 
 sub-read-layout-line : tie.Need-sub-read-layout-line
 sub-read-layout-line c =

@@ -8,7 +8,7 @@ use Rattle.judging.proofs.Turns.{closed-stage, closes-ill-formed}
 use Rattle.judging.proofs.Steps.{closed-range}
 use Rattle.checker.specs.LayoutSteps.{formNumber}
 use Rattle.checker.specs.Found.{FoundFor}
-use Rattle.checker.proofs.LineForms.{of-opening, of-track, of-wire, of-loose, of-closing, of-other}
+use Rattle.layoutforms.proofs.FormsRead.{opening-read, track-read, wire-read, loose-read, closing-read, other-read}
 use borrow.Author.Needs.{needs}
 use Rattle.checker.proofs.take_line.Statement.{statement}
 use Rattle.checker.proofs.take_line.Tie as tie
@@ -32,13 +32,13 @@ take-wire-requires : tie.Need-take-wire-requires
 take-wire-requires c κs =
     let s = c .before .before .before .before in
     let l = s .pre .1 .1 .1 .1 in
-    let w = of-wire (l .line) _ (sym (c .before .enum-told2 .given .1) ∙ l .line-is .form-is) in (
+    let w = wire-read (l .line) _ (sym (c .before .enum-told2 .given .1) ∙ l .line-is .form-is) in (
       s .pre .0,
       (
         s .pre .1 .0,
         (
           s .pre .1 .1 .0,
-          record { line = w .drawn; read = l .line-is .read-is (wire (w .drawn)) (w .line-is); number-is = λ d. w .number-is ∙ ap formNumber (sym (c .before .enum-told2 .given .1)) ∙ l .number-is d },
+          record { line = w .drawn; read = l .line-is .read-is (wire (w .drawn)) (w .line); number-is = λ d. w .numbered ∙ ap formNumber (sym (c .before .enum-told2 .given .1)) ∙ l .number-is d },
         ),
       ),
     )
@@ -65,22 +65,22 @@ returns : tie.Need-returns
 unfolding passStep
 returns c =
     let o = c .before .enum-told .given .1 in
-    (λ job st x acc is n f l map k. rw (of-opening x (sym o ∙ l .form-is)) (c .take-opening .ensures .0 job st _ k), c .take-opening .ensures .1)
+    (λ job st x acc is n f l map k. rw (opening-read x (sym o ∙ l .form-is)) (c .take-opening .ensures .0 job st _ k), c .take-opening .ensures .1)
 
 returns-2 : tie.Need-returns-2
 unfolding passStep
 returns-2 c =
     let o = c .before .before .form .given .1 in
-    (λ job st x acc is n f l map k. rw (of-track x _ _ (sym o ∙ l .form-is)) (c .take-track .ensures .0 job st _ (ap (λ (b : Board). b .tracks) is) k), c .take-track .ensures .1)
+    (λ job st x acc is n f l map k. rw (track-read x _ _ (sym o ∙ l .form-is)) (c .take-track .ensures .0 job st _ (ap (λ (b : Board). b .tracks) is) k), c .take-track .ensures .1)
 
 returns-3 : tie.Need-returns-3
 unfolding passStep
 returns-3 c =
     let o = c .before .before .enum-told2 .given .1 in (
       λ job st x acc is n f l map k.
-          let w = of-wire x _ (sym o ∙ l .form-is) in
-          let g = subst (λ (i : ℕ). FoundFor job i (c .before .before .before .before .before .args .found)) (ap formNumber o ∙ sym (w .number-is)) f in
-          rw (w .line-is) (c .take-wire .ensures .0 job st (w .drawn) acc is g (l .read-is (wire (w .drawn)) (w .line-is)) map k),
+          let w = wire-read x _ (sym o ∙ l .form-is) in
+          let g = subst (λ (i : ℕ). FoundFor job i (c .before .before .before .before .before .args .found)) (ap formNumber o ∙ sym (w .numbered)) f in
+          rw (w .line) (c .take-wire .ensures .0 job st (w .drawn) acc is g (l .read-is (wire (w .drawn)) (w .line)) map k),
       c .take-wire .ensures .1,
     )
 
@@ -90,7 +90,7 @@ returns-4 c =
     let o = c .before .before .before .form2 .given .1 in (
       λ job st x acc is n f l map k.
           let g = subst (λ (i : ℕ). FoundFor job i (c .before .before .before .before .before .before .args .found)) (ap formNumber o) f in
-          rw (of-loose x _ (sym o ∙ l .form-is)) (c .take-loose .ensures .0 job st acc (ap (λ (b : Board). b .tracks) is) (g .index-is) k),
+          rw (loose-read x _ (sym o ∙ l .form-is)) (c .take-loose .ensures .0 job st acc (ap (λ (b : Board). b .tracks) is) (g .index-is) k),
       c .take-loose .ensures .1,
     )
 
@@ -98,7 +98,7 @@ returns-5 : tie.Need-returns-5
 unfolding passStep
 returns-5 c =
     let o = c .before .before .enum-told3 .given .1 in
-    (λ job st x acc is n f l map k. rw (of-closing x (sym o ∙ l .form-is)) (c .take-closing .ensures .0 job st acc (ap (λ (b : Board). b .tracks) is) n k), c .take-closing .ensures .1)
+    (λ job st x acc is n f l map k. rw (closing-read x (sym o ∙ l .form-is)) (c .take-closing .ensures .0 job st acc (ap (λ (b : Board). b .tracks) is) n k), c .take-closing .ensures .1)
 
 returns-6 : tie.Need-returns-6
 unfolding passStep
@@ -106,7 +106,7 @@ returns-6 c =
     let o = c .before .enum-told4 .given .1 in
     let a = c .before .before .before .before .args in
     rw (c .closed .ensures) (
-      λ job st x acc is n f l map k. rw (of-other x (sym o ∙ l .form-is)) (closed-stage (a .m) (a .line), closes-ill-formed job (a .line) st (a .m) (a .stands .now) k),
+      λ job st x acc is n f l map k. rw (other-read x (sym o ∙ l .form-is)) (closed-stage (a .m) (a .line), closes-ill-formed job (a .line) st (a .m) (a .stands .now) k),
       closed-range (a .line) (a .line) (a .m),
     )
 

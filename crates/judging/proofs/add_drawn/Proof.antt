@@ -1,8 +1,14 @@
 -- `judging::add_drawn` meets its contract. Assumes nothing.
-use mathlib.Core.Path.{refl}
+use Prim.Native.Nat.{ℕ, _+_, _-_}
+use mathlib.Core.Path.{refl, sym, ap, _∙_}
+use mathlib.Core.Bool.{Bool}
 use native.Mathlib.Omega.{arith}
+use Rattle.board.specs.declared.Board.{Board}
+use Rattle.board.specs.Length.{worth}
 use Rattle.board.proofs.ShortestShape.{worth-range}
-use Rattle.judging.proofs.Steps.{drawn-added, kept-range}
+use Rattle.judging.specs.Values.{isNextAt, firstFault}
+use Rattle.judging.proofs.ValueTests.{fits-covered}
+use Rattle.judging.proofs.Steps.{drawn-kept, kept-range}
 use borrow.Author.Needs.{needs}
 use Rattle.judging.proofs.add_drawn.Statement.{statement}
 use Rattle.judging.proofs.add_drawn.Tie as tie
@@ -19,41 +25,49 @@ mul-stands c = search needs
 element-write-stands : tie.Need-element-write-stands
 element-write-stands c = search needs
 
-span-requires : tie.Need-span-requires
-span-requires c κs = search needs
+covered-requires : tie.Need-covered-requires
+covered-requires c κs =
+    let f = fits-covered _ _ _ _ (c .before .before .before .before .pre .1 .1) in
+    (f .0, f .1)
 
-add-bottom : tie.Need-add-bottom
-add-bottom c = search needs
+add-lowest : tie.Need-add-lowest
+add-lowest c =
+    let f = fits-covered _ _ _ _ (c .before .before .before .before .before .before .pre .1 .1) in
+    let e = c .before .covered .ensures in
+    omega (arith, f .2, e)
 
-extra-requires : tie.Need-extra-requires
-extra-requires c κs = search needs
-
-add-bottom-2 : tie.Need-add-bottom-2
-add-bottom-2 c = search needs
+sub-lowest : tie.Need-sub-lowest
+sub-lowest c = search needs
 
 worth-requires : tie.Need-worth-requires
 worth-requires c κs = search needs
 
-add-t16 : tie.Need-add-t16
-add-t16 c =
-    let s = c .before .before .before .before .before .before .before .before .before in
+add-sum : tie.Need-add-sum
+add-sum c =
+    let s = c .before .before .before .before .before .before .before .before in
     let fits = s .pre .1 .1 in
     let w = worth-range (s .args .board) (s .args .found .net) (fits .board-range) (fits .net-range .in-range) in
     let e = c .before .worth .ensures in
     let r = s .pre .1 .0 .sum-range in
     let l = s .pre .0 in
-    omega (arith, w, e, r, l)
+    let f = fits-covered _ _ _ _ fits in
+    omega (arith, w, e, r, l, f .2, c .before .before .before .covered .ensures)
 
 returns : tie.Need-returns
 returns c =
-    let s = c .before .before .before .before .before .before .before .before .before in
+    let s = c .before .before .before .before .before .before .before .before in
     let a = s .args in
     let fits = s .pre .1 .1 in
-    let w = worth-range (a .board) (a .found .net) (fits .board-range) (fits .net-range .in-range) in
-    rw (c .before .worth .ensures, c .before .before .extra .ensures, c .before .before .before .before .span .ensures, c .before .before .before .before .before .first-fault .ensures, c .before .before .before .before .before .before .may-stand .ensures) (
+    let w = worth-range (a .board) (a .found .net) (fits .board-range) (fits .net-range .in-range) in (
       λ job m v acc is found numbered blocks begun h.
-          rw (← is) (drawn-added job (a .line) (s .pre .0) m v (a .m) acc (a .found) found numbered (a .words .now) (a .stands .now) blocks begun (a .top .0) (a .shape) h),
-      kept-range (a .line) _ (a .m) (s .pre .0 .0) (s .pre .1 .0) refl (omega (arith, w)),
+          drawn-kept job (a .line) (s .pre .0) m v (a .m) acc (a .found) found numbered (a .words .now) (a .stands .now) blocks begun (a .top .0) (a .shape) _ _ _
+          (c .before .worth .ensures ∙ ap (λ (b : Board). worth b (a .found .net)) (sym is))
+          (ap (λ (rows : ℕ). a .top .0 + rows - 1) (c .before .before .before .covered .ensures))
+          (c .before .before .before .before .first-fault .ensures ∙
+          ap (λ (passed : Bool). firstFault (a .m .fault) passed (a .line))
+          (c .before .before .before .before .before .may-stand .ensures ∙ ap (λ (b : Board). isNextAt b (a .words .now) (a .stands .now) (a .found) (a .m) (a .top .0) (a .shape)) (sym is)))
+          h,
+      kept-range (a .line) _ (a .m) (s .pre .0 .0) (s .pre .1 .0) refl (omega (arith, w, c .before .worth .ensures)),
     )
 
 pub add-drawn-spec : {M : Type 1} → statement M
@@ -64,10 +78,9 @@ add-drawn-spec =
     first-fault-requires
     mul-stands
     element-write-stands
-    span-requires
-    add-bottom
-    extra-requires
-    add-bottom-2
+    covered-requires
+    add-lowest
+    sub-lowest
     worth-requires
-    add-t16
+    add-sum
     returns)

@@ -1,10 +1,9 @@
 -- `judging::all_lined` meets its contract: before each turn of the loop the nets passed all have a line. Assumes nothing.
 use mathlib.Core.Path.{sym}
-use Prim.Native.Nat.{ℕ, zero, suc, _≤_, _<_, _+_, _-_, _*_}
+use Prim.Native.Nat.{_≤_, _-_}
 use mathlib.Core.Path.{_≡_}
 use native.Mathlib.Omega.{arith}
 use borrow.Author.Needs.{needs}
-use lib.ListN.{length, getD, set}
 use mathlib.Core.Bool.{true}
 use Rattle.judging.specs.Values.{allLined}
 use Rattle.judging.proofs.LinedNets.{lined-none, lined-more, one-missing}

@@ -1,9 +1,8 @@
 -- `judging::net_index` meets its contract: before each turn of the loop no number passed is the one looked for. Assumes nothing.
-use Prim.Native.Nat.{ℕ, zero, suc, _≤_, _<_, _+_, _-_, _*_}
+use Prim.Native.Nat.{_≤_, _-_}
 use mathlib.Core.Path.{_≡_}
 use native.Mathlib.Omega.{arith}
 use borrow.Author.Needs.{needs}
-use lib.ListN.{length, getD, set}
 use Rattle.judging.proofs.Indexes.{NoneTo, none-yet, none-more, place-found, place-none}
 use Rattle.judging.proofs.net_index.Statement.{statement}
 use Rattle.judging.proofs.net_index.Tie as tie

@@ -1,11 +1,11 @@
 -- `judging::numbers_of` meets its contract: before each turn of the loop the array has the numbers of the nets passed. Assumes nothing.
 use mathlib.Core.Path.{refl}
 use Rattle.candidates.proofs.ArraySizes.{net-size}
-use Prim.Native.Nat.{ℕ, zero, suc, _≤_, _<_, _+_, _-_, _*_}
+use Prim.Native.Nat.{_≤_, _-_}
 use mathlib.Core.Path.{_≡_}
 use native.Mathlib.Omega.{arith}
 use borrow.Author.Needs.{needs}
-use lib.ListN.{length, getD, set}
+use lib.ListN.{length}
 use lib.ListN.{take}
 use Rattle.candidates.specs.Placed.{padded}
 use Rattle.judging.proofs.Indexes.{numbersIn, numbers-none, numbers-more, numbers-all}

@@ -1,10 +1,9 @@
 -- `judging::rows_clear` meets its contract: before each turn of the loop the rows passed are clear. Assumes nothing.
 use mathlib.Core.Path.{sym, _∙_}
-use Prim.Native.Nat.{ℕ, zero, suc, _≤_, _<_, _+_, _-_, _*_}
+use Prim.Native.Nat.{_≤_, _+_, _-_}
 use mathlib.Core.Path.{_≡_}
 use native.Mathlib.Omega.{arith}
 use borrow.Author.Needs.{needs}
-use lib.ListN.{length, getD, set}
 use Rattle.blockmap.proofs.ClearRows.{ClearFrom, clear-none, clear-more, clear-of, blocked-in}
 use Rattle.judging.proofs.rows_clear.Statement.{statement}
 use Rattle.judging.proofs.rows_clear.Tie as tie

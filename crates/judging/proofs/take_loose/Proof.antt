@@ -96,7 +96,7 @@ returns-5 c =
       λ job st acc is n k.
           loose-broken job (a .line) (a .m) (a .stands .now) acc (a .number) (a .index) n st (sym (loose-place job (a .tracks) is (a .m) (a .stands .now) st (a .number) k) ∙ turn)
           (λ d. c .before .before .before .before .before .before .if2 .left (ap (λ (j : LinesJudged). j .stage) e ∙ d))
-          (not-above (a .stands .now) (a .m) (a .number) (a .index) (c .before .if5 .taken)) k,
+          (not-above (a .stands .now) (a .m) (a .number) (a .index) (omega (arith, c .before .if5 .taken))) k,
       off-range (a .line) (a .line),
     )
 

@@ -3,17 +3,18 @@ ghost use mathlib.Core.Path.{_≡_};
 ghost use mathlib.Core.Bool.{false};
 ghost use mathlib.Core.List.{[]};
 ghost use Prim.Native.Nat.{ℕ, _+_, _*_, _-_, _≤_, _<_};
-ghost use lib.ListN.{length, getD};
+ghost use lib.ListN.{length, getD, take};
 ghost use lib.Dec.{eqb};
 ghost use Rattle.board.specs.declared.Board.{Board};
 ghost use Rattle.board.specs.Job.{blocked};
 ghost use Rattle.board.specs.Stored.{jobOf};
 ghost use Rattle.board.specs.Accepted.{BoardInRange, AcceptedNet};
 ghost use Rattle.blockmap.specs.Bits.{isSet};
-ghost use Rattle.blockmap.specs.Clear.{allUnset, flagTops};
+ghost use Rattle.blockmap.specs.Clear.{allUnset, flag, flagTops};
 ghost use Rattle.board.specs.Stored.{AcceptedStored};
 ghost use Rattle.candidates.specs.Placed.{indexFrom, precedingOf, eligibleAt, hasBlocks};
 ghost use Rattle.candidates.specs.Gathered.{TopsOf, arraysOf, onPart, GatheredFrom};
+ghost use Rattle.candidates.specs.TopsTable.{withTops, withAllTops, NetsLent, TableOf, topsIn};
 use blockmap::BlockMap;
 use board::Board;
 use board::Net;
@@ -161,6 +162,86 @@ fn no_candidates() -> Candidates
     }
 }
 
+// Which nets are eligible, in a new table of numbers: number i is 1 if net i is, otherwise 0. `put_tops` says what its other parts are for.
+fn eligible_nets(nnets: usize, before: &[usize; 512], placed: &[usize; 512]) -> [usize; 2560]
+    requires { ⌜ (nnets ≤ 512) × ((k : ℕ) → k < nnets → getD (now before) k 0 ≤ 512) ⌝ }
+    ensures { λ r. ⌜ ((k : ℕ) → k < nnets → getD r k 0 ≡ flag (eligibleAt (getD (now (before .entry)) k 0) (now (placed .entry)) k)) ⌝ }
+{
+    let mut table = [0usize; 2560];
+    for i in 0..nnets {
+        if is_eligible(before[i], placed, i) {
+            table[i] = 1;
+        }
+    }
+    table
+}
+
+// What the choice needs of net i, put into the table if the net is eligible there: its needed rows, what it is worth, and its first and
+// last top row stand 512, 1,024, 1,536 and 2,048 places behind number i.
+fn put_tops(board: Board, net: Net, i: usize, table: &mut [usize])
+    requires { ⌜ (BoardInRange board) × (AcceptedNet board net) × (i < 512) × (2560 ≤ length (now table)) ⌝ }
+    ensures { λ r. ⌜ now (table .exit) ≡ withTops board net i (now (table .entry)) ⌝ }
+{
+    if table[i] == 0 {
+        return;
+    }
+    let tops = tops_of(board, net);
+    table[i + 512] = tops.need;
+    table[i + 1024] = tops.worth;
+    table[i + 1536] = tops.first.0;
+    table[i + 2048] = tops.last.0;
+}
+
+// The nets of the job, lent as a list of records: each record goes to the placement rule, in its order.
+fn put_all_tops(nets: &[Net], board: Board, table: &mut [usize])
+    requires { ⌜ NetsLent board (now nets) (now table) ⌝ }
+    ensures { λ r. ⌜ now (table .exit) ≡ withAllTops board (now (nets .entry)) (length (now (nets .entry))) (now (table .entry)) ⌝ }
+{
+    let mut i: usize = 0;
+    while i < nets.len() {
+        put_tops(board, nets[i], i, table);
+        i += 1;
+    }
+}
+
+// Lends the first `count` records of an array. Its own parameters are plain, so whoever calls it needs no walk by hand.
+fn lent_tops(nets: [Net; 512], count: usize, board: Board, table: &mut [usize])
+    requires { ⌜ (count ≤ 512) × NetsLent board (take count nets) (now table) ⌝ }
+    ensures { λ r. ⌜ now (table .exit) ≡ withAllTops board (take count nets) (length (take count nets)) (now (table .entry)) ⌝ }
+{
+    put_all_tops(&nets[..count], board, table);
+}
+
+// The table of a track: which nets are eligible, and what the choice needs of each of those. The nets of the job are lent for it.
+fn tops_table(job: StoredJob, before: &[usize; 512], placed: &[usize; 512]) -> [usize; 2560]
+    requires { ⌜ AcceptedStored job ⌝ }
+    requires { ⌜ now before ≡ precedingOf (jobOf job) ⌝ }
+    ensures { λ r. ⌜ TableOf job (now (placed .entry)) r ⌝ }
+{
+    let nnets = job.nnets;
+    let mut table = eligible_nets(nnets, before, placed);
+    let nets = job.nets;
+    lent_tops(nets, nnets, job.board, &mut table);
+    table
+}
+
+// What the choice needs of net i, as it stands in the table.
+fn tops_in(table: &[usize; 2560], i: usize) -> NetTops
+    requires { ⌜ i < 512 ⌝ }
+    ensures { λ r. ⌜ r ≡ topsIn (now (table .entry)) i ⌝ }
+{
+    let need = table[i + 512];
+    let worth = table[i + 1024];
+    let first = table[i + 1536];
+    let last = table[i + 2048];
+    NetTops {
+        need,
+        worth,
+        first: Row(first),
+        last: Row(last),
+    }
+}
+
 // The candidates for a track, where placed[k] is the track of net k, or 0. Candidate i has part i of the flags, 1,024 bytes long: byte
 // top − 1 of it is 1 if the candidate is clear of blocks with its top there, otherwise 0.
 pub fn gather(
@@ -175,17 +256,18 @@ pub fn gather(
     requires { ⌜ 524288 ≤ length (now flags) ⌝ }
     ensures { λ r. ⌜ GatheredFrom (jobOf job) (now (placed .entry)) (track .0) (now (flags .entry)) r (now (flags .exit)) ⌝ }
 {
-    let board = job.board;
-    let nnets = job.nnets;
     let any = has_blocks(job, track);
     let map = block_map(job, track);
+    let table = tops_table(job, before, placed);
     let mut found = no_candidates();
-    for i in 0..nnets {
-        if !is_eligible(before[i], placed, i) {
+    let mut next = 0;
+    while next < job.nnets {
+        let i = next;
+        next += 1;
+        if table[i] == 0 {
             continue;
         }
-        let net = job.nets[i];
-        let tops = tops_of(board, net);
+        let tops = tops_in(&table, i);
         let at = found.count;
         flag_part(map, any, tops, at, flags);
         found.net[at] = i;

@@ -11,33 +11,14 @@
 # The texts, in this order: document 01's boards to try, starred or not, and the other vectors of every family, the `max` family three
 # times; then generated jobs of every other family, from seeds that the vectors do not have, none above 2,000 bytes.
 # Beside STDIN and STDOUT it writes below target/bench/ only.
-set -eu
-LC_ALL=C
-export LC_ALL
-if [ $# -ne 3 ]; then
-    echo "usage: bench/boards.sh SECOND_ROUTER STDIN STDOUT" >&2
-    exit 2
-fi
-second=$1
-stdin=$2
-stdout=$3
-work=$(dirname "$0")/../target/bench
-mkdir -p "$work"
-rustc -O -A warnings -o "$work/second" "$second/src/main.rs"
+. "$(dirname "$0")/cases.sh"
 jobs=0
 refused=0
-: > "$stdin"
-: > "$stdout"
 
 # adds the text in the file $1, and the second router's answer to it, which stays in $work/answer
 add() {
-    if ! tr -d '\377' < "$1" | cmp -s - "$1"; then
-        echo "$1: byte 255 stands in the text" >&2
-        exit 1
-    fi
     "$work/second" route < "$1" > "$work/answer"
-    cat "$1" >> "$stdin"
-    printf '\377' >> "$stdin"
+    put "$1"
     cat "$work/answer" >> "$stdout"
     jobs=$((jobs + 1))
     case $(head -n 1 "$work/answer") in

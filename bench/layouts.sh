@@ -10,34 +10,14 @@
 # The cases, in this order: all check cases of the vectors; then, for generated jobs of every family but `max`, the second router's layout
 # and three mutants of it, where the job is accepted and neither text is above 2,000 bytes.
 # Beside STDIN and STDOUT it writes below target/bench/ only.
-set -eu
-LC_ALL=C
-export LC_ALL
-if [ $# -ne 3 ]; then
-    echo "usage: bench/layouts.sh SECOND_ROUTER STDIN STDOUT" >&2
-    exit 2
-fi
-second=$1
-stdin=$2
-stdout=$3
-work=$(dirname "$0")/../target/bench
-mkdir -p "$work"
-rustc -O -A warnings -o "$work/second" "$second/src/main.rs"
+. "$(dirname "$0")/cases.sh"
 cases=0
 broken=0
-: > "$stdin"
-: > "$stdout"
 
 # adds the job in the file $1 with the layout in the file $2; the verdict stays in $work/verdict
 add() {
-    for text in "$1" "$2"; do
-        if ! tr -d '\377' < "$text" | cmp -s - "$text"; then
-            echo "$text: byte 255 stands in the text" >&2
-            exit 1
-        fi
-        cat "$text" >> "$stdin"
-        printf '\377' >> "$stdin"
-    done
+    put "$1"
+    put "$2"
     "$work/second" check "$1" "$2" > "$work/verdict"
     cat "$work/verdict" >> "$stdout"
     cases=$((cases + 1))

@@ -1,4 +1,4 @@
--- The laws of the slots of a job by value, of the ranges of a line's numbers, and of the outcomes of a line.
-pub mod Slots
+-- The laws of used pins, of the ranges of a line's numbers, and of the outcomes of a line.
+pub mod Pins
 pub mod Ranges
 pub mod Outcomes

@@ -8,6 +8,7 @@ use lib.Dec.{eqb, leb, ltb}
 use lib.ListN.{length}
 use borrow.Author.Tests.{ltb-true, lt-ltb, le-ltb, le-leb, lt-leb, eq-eqb}
 use Rattle.lists.specs.Lists.{allOf}
+use Rattle.board.specs.declared.Board.{Board}
 use Rattle.board.specs.declared.Net.{Net}
 use Rattle.board.specs.declared.Block.{Block}
 use Rattle.board.specs.Job.{Job}
@@ -16,7 +17,8 @@ use Rattle.jobfile.specs.declared.Outcome.{Outcome}
 use Rattle.jobfile.specs.declared.Outcome.the-variants.{Accepted, OutOfRange, TooMany, NumberNotAbove, PinUsed, SameRow, NoLength, TooFewRows}
 use Rattle.jobfile.specs.Read.{filled, Next, go, unless, netInRange, blockInRange, lastNumber, pinsFree, withNet, withBlock, addNet, addBlock}
 use Rattle.jobfile.specs.Answers.{numberOf}
-use Rattle.jobrules.specs.Rules.{outcomeOf}
+use Rattle.jobrules.specs.Rules.{outcomeOf, NetsAbove}
+use Rattle.jobrules.specs.declared.UsedPins.{UsedPins}
 
 -- a test of a value that was computed
 pub test-yes : {x y : ℕ} (m : ℕ) → x ≡ y → x ≤ m → leb y m ≡ true
@@ -25,76 +27,69 @@ test-yes {x} {y} m e h = le-leb y m (omega arith)
 pub test-no : {x y : ℕ} (m : ℕ) → x ≡ y → m < x → leb y m ≡ false
 test-no {x} {y} m e h = lt-leb y m (omega arith)
 
-pub test-below : {x y m : ℕ} → x ≡ y → x < m → ltb y m ≡ true
-test-below {x} {y} {m} e h = lt-ltb y m (omega arith)
-
-pub test-not-below : {x y m : ℕ} → x ≡ y → m ≤ x → ltb y m ≡ false
-test-not-below {x} {y} {m} e h = le-ltb y m (omega arith)
-
 -- ---- the outcome of a net: the first of the tests 3 to 7 that fails
 
-module _ (k : ℕ) (n : Net) (job : Job) where
-  pub fails-3 : netInRange (job .board) n ≡ false → OutOfRange k ≡ outcomeOf (addNet k n job)
+module _ (k : ℕ) (n : Net) (size : Board) (count last : ℕ) (used : UsedPins) (job : Job) (h : NetsAbove job size count last used) where
+  pub fails-3 : netInRange size n ≡ false → OutOfRange k ≡ outcomeOf (addNet k n job)
   unfolding outcomeOf addNet unless
-  fails-3 e = rw e
+  fails-3 e = rw (h .size-is, e)
 
-  module _ (ranges : netInRange (job .board) n ≡ true) where
-    pub fails-4 : ltb (length (job .nets)) 512 ≡ false → TooMany k ≡ outcomeOf (addNet k n job)
+  few-is : count < 512 → ltb (length (job .nets)) 512 ≡ true
+  few-is l = lt-ltb (length (job .nets)) 512 (omega (arith, h .count-is))
+
+  above-is : last < n .number → ltb (lastNumber 0 (job .nets)) (n .number) ≡ true
+  above-is l = lt-ltb (lastNumber 0 (job .nets)) (n .number) (omega (arith, h .last-is))
+
+  module _ (ranges : netInRange size n ≡ true) where
+    pub fails-4 : 512 ≤ count → TooMany k ≡ outcomeOf (addNet k n job)
     unfolding outcomeOf addNet unless
-    fails-4 e = rw (ranges, e)
+    fails-4 l = rw (h .size-is, ranges, le-ltb (length (job .nets)) 512 (omega (arith, h .count-is)))
 
-    module _ (few : ltb (length (job .nets)) 512 ≡ true) where
-      pub fails-5 : ltb (lastNumber 0 (job .nets)) (n .number) ≡ false → NumberNotAbove k ≡ outcomeOf (addNet k n job)
+    module _ (few : count < 512) where
+      pub fails-5 : n .number ≤ last → NumberNotAbove k ≡ outcomeOf (addNet k n job)
       unfolding outcomeOf addNet unless
-      fails-5 e = rw (ranges, few, e)
+      fails-5 l = rw (h .size-is, ranges, few-is few, le-ltb (lastNumber 0 (job .nets)) (n .number) (omega (arith, h .last-is)))
 
-      module _ (above : ltb (lastNumber 0 (job .nets)) (n .number) ≡ true) where
+      module _ (above : last < n .number) where
         pub fails-6 : allOf (pinsFree n) (job .nets) ≡ false → PinUsed k ≡ outcomeOf (addNet k n job)
         unfolding outcomeOf addNet unless
-        fails-6 e = rw (ranges, few, above, e)
+        fails-6 e = rw (h .size-is, ranges, few-is few, above-is above, e)
 
-        pub fails-7 : allOf (pinsFree n) (job .nets) ≡ true → n .left .0 ≡ n .right .0 → SameRow k ≡ outcomeOf (addNet k n job)
-        unfolding outcomeOf addNet unless
-        fails-7 free e = rw (ranges, few, above, free, eq-eqb (n .left .0) (n .right .0) e)
+        module _ (free : allOf (pinsFree n) (job .nets) ≡ true) where
+          pub fails-7 : n .left .0 ≡ n .right .0 → SameRow k ≡ outcomeOf (addNet k n job)
+          unfolding outcomeOf addNet unless
+          fails-7 e = rw (h .size-is, ranges, few-is few, above-is above, free, eq-eqb (n .left .0) (n .right .0) e)
 
--- ---- and of one that passes them
+          -- ---- and of one that passes them
+          module _ (differ : not (eqb (n .left .0) (n .right .0)) ≡ true) where
+            pub fails-8 : leb (lengthOf size n (shortest size n)) (n .max) ≡ false → NoLength k ≡ outcomeOf (addNet k n job)
+            unfolding outcomeOf addNet unless
+            fails-8 e = rw (h .size-is, ranges, few-is few, above-is above, free, differ, e)
 
-pub record Passes7 (n : Net) (job : Job) : Type 0 where
-  pub ranges : netInRange (job .board) n ≡ true
-  pub few : ltb (length (job .nets)) 512 ≡ true
-  pub above : ltb (lastNumber 0 (job .nets)) (n .number) ≡ true
-  pub free : allOf (pinsFree n) (job .nets) ≡ true
-  pub differ : not (eqb (n .left .0) (n .right .0)) ≡ true
+            module _ (e : leb (lengthOf size n (shortest size n)) (n .max) ≡ true) where
+              pub fails-9 : leb (needed size n) (size .rows) ≡ false → TooFewRows k ≡ outcomeOf (addNet k n job)
+              unfolding outcomeOf addNet unless
+              fails-9 f = rw (h .size-is, ranges, few-is few, above-is above, free, differ, e, f)
 
-module _ (k : ℕ) (n : Net) (job : Job) (p : Passes7 n job) where
-  pub fails-8 : leb (lengthOf (job .board) n (shortest (job .board) n)) (n .max) ≡ false → NoLength k ≡ outcomeOf (addNet k n job)
-  unfolding outcomeOf addNet unless
-  fails-8 e = rw (p .ranges, p .few, p .above, p .free, p .differ, e)
-
-  module _ (e : leb (lengthOf (job .board) n (shortest (job .board) n)) (n .max) ≡ true) where
-    pub fails-9 : leb (needed (job .board) n) (job .board .rows) ≡ false → TooFewRows k ≡ outcomeOf (addNet k n job)
-    unfolding outcomeOf addNet unless
-    fails-9 f = rw (p .ranges, p .few, p .above, p .free, p .differ, e, f)
-
-    pub passes-9 : leb (needed (job .board) n) (job .board .rows) ≡ true → Accepted ≡ outcomeOf (addNet k n job)
-    unfolding outcomeOf addNet unless
-    passes-9 f = rw (p .ranges, p .few, p .above, p .free, p .differ, e, f)
+              pub passes-9 : leb (needed size n) (size .rows) ≡ true → Accepted ≡ outcomeOf (addNet k n job)
+              unfolding outcomeOf addNet unless
+              passes-9 f = rw (h .size-is, ranges, few-is few, above-is above, free, differ, e, f)
 
 -- ---- the outcome of a block
 
-module _ (k : ℕ) (b : Block) (job : Job) where
-  pub block-fails-3 : blockInRange (job .board) b ≡ false → OutOfRange k ≡ outcomeOf (addBlock k b job)
+module _ (k : ℕ) (b : Block) (size : Board) (count : ℕ) (job : Job) (q : job .board ≡ size) (c : length (job .blocks) ≡ count) where
+  pub block-fails-3 : blockInRange size b ≡ false → OutOfRange k ≡ outcomeOf (addBlock k b job)
   unfolding outcomeOf addBlock unless
-  block-fails-3 e = rw e
+  block-fails-3 e = rw (q, e)
 
-  module _ (ranges : blockInRange (job .board) b ≡ true) where
-    pub block-fails-4 : ltb (length (job .blocks)) 256 ≡ false → TooMany k ≡ outcomeOf (addBlock k b job)
+  module _ (ranges : blockInRange size b ≡ true) where
+    pub block-fails-4 : 256 ≤ count → TooMany k ≡ outcomeOf (addBlock k b job)
     unfolding outcomeOf addBlock unless
-    block-fails-4 e = rw (ranges, e)
+    block-fails-4 l = rw (q, ranges, le-ltb (length (job .blocks)) 256 (omega arith))
 
-    pub block-passes-4 : ltb (length (job .blocks)) 256 ≡ true → Accepted ≡ outcomeOf (addBlock k b job)
+    pub block-passes-4 : count < 256 → Accepted ≡ outcomeOf (addBlock k b job)
     unfolding outcomeOf addBlock unless
-    block-passes-4 e = rw (ranges, e)
+    block-passes-4 l = rw (q, ranges, lt-ltb (length (job .blocks)) 256 (omega arith))
 
 -- ---- where all tests pass
 
@@ -109,10 +104,10 @@ passed-first true o x h f e = f refl e
 passed-first false o x h f e = absurd (h e)
 
 -- x leads to y, if to anything
-abbrev Leads : Next → Next → Type 0
+abbrev pub Leads : Next → Next → Type 0
 Leads y x = Passes x → x ≡ y
 
-unless-leads : (b : Bool) (o : Outcome) (x y : Next) → (numberOf o ≡ 0 → ⊥) → Leads y x → Leads y (unless b o x)
+pub unless-leads : (b : Bool) (o : Outcome) (x y : Next) → (numberOf o ≡ 0 → ⊥) → Leads y x → Leads y (unless b o x)
 unfolding unless outcomeOf
 unless-leads true o x y h f e = f e
 unless-leads false o x y h f e = absurd (h e)
@@ -123,6 +118,10 @@ module _ (k : ℕ) (n : Net) (job : Job) where
   net-few =
       passed-first _ _ _ (λ z. omega arith) (λ e3.
       passed-first _ _ _ (λ z. omega arith) (λ e4 p. ltb-true _ _ e4))
+
+  pub net-ranged : Passes (addNet k n job) → netInRange (job .board) n ≡ true
+  unfolding addNet
+  net-ranged = passed-first _ _ _ (λ z. omega arith) (λ e3 p. e3)
 
   pub net-goes : Passes (addNet k n job) → addNet k n job ≡ go (filled (withNet job n))
   unfolding addNet

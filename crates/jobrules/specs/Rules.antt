@@ -1,21 +1,37 @@
--- A job by value among its nets and blocks, and the outcome of a line that gives one more.
+-- The outcome of a line that gives a net or a block, and what the nets above it come to.
 use mathlib.Core.Path.{_≡_}
-use Prim.Native.Nat.{_≤_}
-use Rattle.board.specs.declared.StoredJob.{StoredJob}
-use Rattle.board.specs.Accepted.{BoardInRange}
-use Rattle.board.specs.Stored.{jobOf, storedOf}
+use mathlib.Core.List.{List}
+use Prim.Native.Nat.{ℕ, _≤_}
+use lib.Dec.{eqb}
+use lib.ListN.{length}
+use Rattle.lists.specs.Lists.{anyOf}
+use Rattle.board.specs.declared.Board.{Board}
+use Rattle.board.specs.declared.Net.{Net}
+use Rattle.board.specs.Job.{Job}
+use Rattle.blockmap.specs.Bits.{isSet}
 use Rattle.jobfile.specs.declared.Outcome.{Outcome}
 use Rattle.jobfile.specs.declared.Outcome.the-variants.{Accepted}
-use Rattle.jobfile.specs.Read.{Next, go, stop}
-
--- behind `(tracks K)`: the size is in range, there are no more nets and blocks than slots, and every unused slot is empty
-pub record Filled (job : StoredJob) : Type 0 where
-  pub stored : storedOf (jobOf job) ≡ job
-  pub board-range : BoardInRange (job .board)
-  pub nets-count : job .nnets ≤ 512
-  pub blocks-count : job .nblocks ≤ 256
+use Rattle.jobfile.specs.Read.{Next, go, stop, lastNumber}
+use Rattle.jobrules.specs.declared.UsedPins.{UsedPins}
 
 -- the outcome of a line: nothing is refused where the lines go on
 unfoldable pub outcomeOf : Next → Outcome
 outcomeOf (go s) = Accepted
 outcomeOf (stop o) = o
+
+-- L and R of a net are rows of the largest board
+pub record RowsInRange (net : Net) : Type 0 where
+  pub left-range : (1 ≤ net .left .0) × (net .left .0 ≤ 1024)
+  pub right-range : (1 ≤ net .right .0) × (net .right .0 ≤ 1024)
+
+-- the pins that the nets use: on either side exactly the bits of their rows are set
+pub record PinsOf (nets : List Net) (used : UsedPins) : Type 0 where
+  pub left-is : (row : ℕ) → isSet (used .left .words) row ≡ anyOf (λ n. eqb row (n .left .0)) nets
+  pub right-is : (row : ℕ) → isSet (used .right .words) row ≡ anyOf (λ n. eqb row (n .right .0)) nets
+
+-- what a net more of the job is held against: the size, how many nets there are, the number of the last and the pins that they use
+pub record NetsAbove (job : Job) (size : Board) (count last : ℕ) (used : UsedPins) : Type 0 where
+  pub size-is : job .board ≡ size
+  pub count-is : length (job .nets) ≡ count
+  pub last-is : lastNumber 0 (job .nets) ≡ last
+  pub pins : PinsOf (job .nets) used

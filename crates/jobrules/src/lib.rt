@@ -1,4 +1,6 @@
-// The rules of a job's nets and blocks: what a line that gives one is refused for, and the job by value with one more of them.
+// The rules of a job's nets and blocks: what a line that gives one is refused for. A line is held against a few numbers and bits of the lines
+// above and not against the job by value, which would be copied for each line.
+use blockmap::BlockMap;
 use board::Block;
 use board::Board;
 use board::Net;
@@ -7,12 +9,21 @@ use board::StoredJob;
 use board::Track;
 use jobfile::Outcome;
 ghost use mathlib.Core.Path.{_≡_};
-ghost use Prim.Native.Nat.{_<_};
+ghost use mathlib.Core.List.{List, [], _∷_, _++_};
+ghost use lib.ListN.{length};
 ghost use Rattle.lists.specs.Lists.{allOf};
-ghost use Rattle.board.specs.Stored.{jobOf, storedOf};
-ghost use Rattle.jobfile.specs.Read.{within, netInRange, blockInRange, lastNumber, pinsFree, boardOf, emptyBoard, withNet, withBlock, addNet, addBlock};
+ghost use Rattle.board.specs.Job.{Job};
+ghost use Rattle.board.specs.Accepted.{BoardInRange};
+ghost use Rattle.board.specs.Stored.{storedOf};
+ghost use Rattle.jobfile.specs.Read.{within, netInRange, blockInRange, pinsFree, boardOf, emptyBoard, addNet, addBlock};
 ghost use Rattle.jobfile.specs.Answers.{numberOf, lineOf};
-ghost use Rattle.jobrules.specs.Rules.{Filled, outcomeOf};
+ghost use Rattle.jobrules.specs.Rules.{outcomeOf, RowsInRange, PinsOf, NetsAbove};
+
+// The rows of the pins that nets use on either side, one bit a row.
+pub struct UsedPins {
+    pub left: BlockMap,
+    pub right: BlockMap,
+}
 
 // The document's number of an outcome, 0 where nothing is refused.
 pub fn number_of(outcome: Outcome) -> usize
@@ -75,32 +86,6 @@ pub fn empty_job(rows: usize, tracks: usize) -> StoredJob
     }
 }
 
-// A job with one more net, in the first slot that is not used.
-pub fn with_net(job: StoredJob, net: Net) -> StoredJob
-    requires { ⌜ Filled job ⌝ }
-    requires { ⌜ job .nnets < 512 ⌝ }
-    ensures { λ r. ⌜ r ≡ storedOf (withNet (jobOf job) net) ⌝ }
-{
-    let mut more = job;
-    let i = more.nnets;
-    more.nets[i] = net;
-    more.nnets = i + 1;
-    more
-}
-
-// A job with one more block.
-pub fn with_block(job: StoredJob, block: Block) -> StoredJob
-    requires { ⌜ Filled job ⌝ }
-    requires { ⌜ job .nblocks < 256 ⌝ }
-    ensures { λ r. ⌜ r ≡ storedOf (withBlock (jobOf job) block) ⌝ }
-{
-    let mut more = job;
-    let i = more.nblocks;
-    more.blocks[i] = block;
-    more.nblocks = i + 1;
-    more
-}
-
 // Whether x is from lo to hi.
 pub fn is_within(lo: usize, hi: usize, x: usize) -> bool
     ensures { λ r. ⌜ r ≡ within lo hi x ⌝ }
@@ -146,56 +131,60 @@ fn is_block_in_range(size: Board, block: Block) -> bool
     block.first.0 <= block.last.0
 }
 
-// The number of the last net, 0 where there is none.
-fn last_number(job: StoredJob) -> usize
-    requires { ⌜ Filled job ⌝ }
-    ensures { λ r. ⌜ r ≡ lastNumber 0 (jobOf job .nets) ⌝ }
+// No pin is used.
+pub fn no_pins() -> UsedPins
+    ensures { λ r. ⌜ PinsOf [] r ⌝ }
 {
-    if job.nnets == 0 {
-        return 0;
-    }
-    let i = job.nnets - 1;
-    let net = job.nets[i];
-    net.number
+    let left = blockmap::no_rows();
+    let right = blockmap::no_rows();
+    UsedPins { left, right }
 }
 
-// Refusal 6: whether no earlier net has this one's left row on its left, or its right row on its right.
-fn are_pins_free(job: StoredJob, net: Net) -> bool
-    requires { ⌜ Filled job ⌝ }
-    ensures { λ r. ⌜ r ≡ allOf (pinsFree net) (jobOf job .nets) ⌝ }
+// The pins of one more net are used.
+pub fn with_pins(used: UsedPins, net: Net) -> UsedPins
+    requires { ⌜ RowsInRange net ⌝ }
+    ensures { λ r. ⌜ ((nets : List Net) → PinsOf nets used → PinsOf (nets ++ (net ∷ [])) r) ⌝ }
 {
-    let count = job.nnets;
-    let mut i = 0;
-    while i < count {
-        let earlier = job.nets[i];
-        if earlier.left.0 == net.left.0 {
-            return false;
-        }
-        if earlier.right.0 == net.right.0 {
-            return false;
-        }
-        i += 1;
-    }
-    true
+    let left = blockmap::with_row(used.left, net.left);
+    let right = blockmap::with_row(used.right, net.right);
+    UsedPins { left, right }
 }
 
-// Refusals 3 to 9 of a net, the first that fits.
-pub fn net_outcome(job: StoredJob, net: Net, line: usize) -> Outcome
-    requires { ⌜ Filled job ⌝ }
-    ensures { λ r. ⌜ r ≡ outcomeOf (addNet line net (jobOf job)) ⌝ }
+// Refusal 6: whether neither pin of a net is used.
+fn are_pins_free(used: UsedPins, net: Net) -> bool
+    requires { ⌜ RowsInRange net ⌝ }
+    ensures { λ r. ⌜ ((nets : List Net) → PinsOf nets used → r ≡ allOf (pinsFree net) nets) ⌝ }
 {
-    let size = job.board;
+    let left = used.left;
+    if blockmap::is_blocked(&left.words, net.left) {
+        return false;
+    }
+    let right = used.right;
+    !blockmap::is_blocked(&right.words, net.right)
+}
+
+// Refusals 3 to 9 of a net, the first that fits, on a board below so many nets, the number of the last of them and their pins.
+pub fn net_outcome(
+    size: Board,
+    count: usize,
+    last: usize,
+    used: UsedPins,
+    net: Net,
+    line: usize,
+) -> Outcome
+    requires { ⌜ BoardInRange size ⌝ }
+    ensures { λ r. ⌜ ((job : Job) → NetsAbove job size count last used → r ≡ outcomeOf (addNet line net job)) ⌝ }
+{
     if !is_net_in_range(size, net) {
         return Outcome::OutOfRange(line);
     }
-    let last = last_number(job);
-    if 512 <= job.nnets {
+    if 512 <= count {
         return Outcome::TooMany(line);
     }
     if net.number <= last {
         return Outcome::NumberNotAbove(line);
     }
-    if !are_pins_free(job, net) {
+    if !are_pins_free(used, net) {
         return Outcome::PinUsed(line);
     }
     if net.left.0 == net.right.0 {
@@ -211,15 +200,14 @@ pub fn net_outcome(job: StoredJob, net: Net, line: usize) -> Outcome
     Outcome::Accepted
 }
 
-// Refusals 3 and 4 of a block.
-pub fn block_outcome(job: StoredJob, block: Block, line: usize) -> Outcome
-    requires { ⌜ Filled job ⌝ }
-    ensures { λ r. ⌜ r ≡ outcomeOf (addBlock line block (jobOf job)) ⌝ }
+// Refusals 3 and 4 of a block, on a board below so many blocks.
+pub fn block_outcome(size: Board, count: usize, block: Block, line: usize) -> Outcome
+    ensures { λ r. ⌜ ((job : Job) → job .board ≡ size → length (job .blocks) ≡ count → r ≡ outcomeOf (addBlock line block job)) ⌝ }
 {
-    if !is_block_in_range(job.board, block) {
+    if !is_block_in_range(size, block) {
         return Outcome::OutOfRange(line);
     }
-    if job.nblocks < 256 {
+    if count < 256 {
         Outcome::Accepted
     } else {
         Outcome::TooMany(line)

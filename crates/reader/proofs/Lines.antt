@@ -4,51 +4,25 @@ use mathlib.Core.Path.{_≡_, refl, sym, ap, _∙_}
 use mathlib.Core.Bool.{Bool, true, false, true≢false}
 use lib.Dec.{eqb}
 use borrow.Author.Tests.{eqb-true}
+use native.Mathlib.Omega.{arith}
+use Rattle.lists.proofs.Cases.{by-test}
+use Rattle.board.specs.declared.Net.{Net}
+use Rattle.board.specs.declared.Block.{Block}
 use Rattle.board.specs.declared.StoredJob.{StoredJob}
 use Rattle.board.specs.Job.{Job}
 use Rattle.board.specs.Stored.{jobOf, storedOf}
 use Rattle.jobfile.specs.declared.Form.{Form}
 use Rattle.jobfile.specs.declared.Form.the-variants as Is
 use Rattle.jobfile.specs.declared.Outcome.{Outcome}
-use Rattle.jobfile.specs.declared.Outcome.the-variants.{NotOfForm, OutOfRange}
-use Rattle.jobfile.specs.Read.{Next, go, stop, sized, filled, unless, within, atStart, atOpened, atSized, atFilled, netOf, blockOf, boardOf, emptyBoard, addNet, addBlock, step}
+use Rattle.jobfile.specs.declared.Outcome.the-variants.{Accepted, NotOfForm, OutOfRange}
+use Rattle.jobfile.specs.Read.{State, Next, go, stop, sized, filled, unless, within, atStart, atOpened, atSized, atFilled, netOf, blockOf, boardOf, emptyBoard, addNet, addBlock, step}
 use Rattle.jobfile.specs.Answers.{numberOf}
-use Rattle.jobrules.specs.Rules.{Filled, outcomeOf}
-use Rattle.reader.specs.LinesTaken.{mayStand, stateOf, onward, linesTakenOf, Held}
-use Rattle.reader.specs.declared.LinesTaken.{LinesTaken}
-
--- what the code holds behind a line that was tested
-
-pub refused-is : (x : Next) (o : Outcome) → o ≡ outcomeOf x → (numberOf o ≡ 0 → ⊥) → linesTakenOf (stop o) ≡ linesTakenOf x
-unfolding outcomeOf
-refused-is (go s) o e h = absurd (h (ap numberOf e))
-refused-is (stop p) o e h = ap (λ (q : Outcome). linesTakenOf (stop q)) e
-
-pub taken-is : (x : Next) (job : Job) (o : Outcome) (w : StoredJob) → x ≡ go (filled job) → o ≡ outcomeOf x → w ≡ storedOf job →
-    record { outcome = o; stage = 3; job = w } ≡ linesTakenOf x
-unfolding outcomeOf linesTakenOf
-taken-is x job o w e f g = rw (f, g, e)
-
--- a test of a line: it is refused where the test fails, and goes on where it passes
-
-pub fails-test : (passed : Bool) (o : Outcome) (x : Next) → passed ≡ false → linesTakenOf (stop o) ≡ linesTakenOf (unless passed o x)
-unfolding unless
-fails-test passed o x e = rw e
-
-pub passes-test : (passed : Bool) (o : Outcome) (x : Next) (w : LinesTaken) → passed ≡ true → w ≡ linesTakenOf x →
-    w ≡ linesTakenOf (unless passed o x)
-unfolding unless
-passes-test passed o x w e g = rw e g
-
--- what the code holds behind `(rows H)`, and behind `(tracks K)`
-
-pub rows-held : (h : ℕ) (w : StoredJob) → w ≡ storedOf (emptyBoard (boardOf h 0)) → onward 2 w ≡ linesTakenOf (go (sized h))
-unfolding linesTakenOf
-rows-held h w e = ap (onward 2) e
-
-pub tracks-held : (job : Job) (w : StoredJob) → w ≡ storedOf job → onward 3 w ≡ linesTakenOf (go (filled job))
-unfolding linesTakenOf
-tracks-held job w e = ap (onward 3) e
+use Rattle.jobrules.specs.Rules.{outcomeOf, NetsAbove}
+use Rattle.jobrules.proofs.Outcomes.{Passes}
+use Rattle.reader.specs.LinesAbove.{mayStand, entryOf, stateOf, Filled, Held, AboveOf}
+use Rattle.reader.specs.declared.LinesAbove.{LinesAbove}
+use Rattle.reader.proofs.Slots.{nets-used}
+use Rattle.reader.specs.declared.Entry.the-variants.{OfNet, OfBlock}
 
 -- a form out of its place
 
@@ -135,25 +109,76 @@ module _ (k stage : ℕ) (job : StoredJob) (form : Form) where
     unfolding mayStand
     block-filled t a b e p = filled-here (at-stage 3 (ap (mayStand stage) e) p)
 
-    pub blank-line : form ≡ Is.Blank → onward stage job ≡ linesTakenOf (step k (stateOf stage job) form)
-    unfolding step
-    blank-line e = rw e (sym (held .value))
+  -- a line that is refused for nothing
+  pub blank-line : form ≡ Is.Blank → Accepted ≡ outcomeOf (step k (stateOf stage job) form)
+  unfolding step outcomeOf
+  blank-line e = rw e
 
-    pub board-line : form ≡ Is.Board → mayStand stage form ≡ true →
-        onward 1 job ≡ linesTakenOf (step k (stateOf stage job) form)
-    unfolding mayStand step stateOf atStart linesTakenOf
-    board-line e p =
-        let s : stage ≡ 0 = at-stage 0 (ap (mayStand stage) e) p in
-        let v = ap (λ (q : LinesTaken). q .job) (rw s at (held .value)) in
-        rw (e, s, v)
+  pub board-line : form ≡ Is.Board → mayStand stage form ≡ true → Accepted ≡ outcomeOf (step k (stateOf stage job) form)
+  unfolding mayStand step stateOf atStart outcomeOf
+  board-line e p = let s : stage ≡ 0 = at-stage 0 (ap (mayStand stage) e) p in rw (e, s)
 
-    pub close-line : form ≡ Is.Close → mayStand stage form ≡ true →
-        onward 4 job ≡ linesTakenOf (step k (stateOf stage job) form)
-    unfolding mayStand step stateOf atFilled linesTakenOf
-    close-line e p =
-        let s : stage ≡ 3 = at-stage 3 (ap (mayStand stage) e) p in
-        rw (e, s, filled-here s .stored)
+  pub close-line : form ≡ Is.Close → mayStand stage form ≡ true → Accepted ≡ outcomeOf (step k (stateOf stage job) form)
+  unfolding mayStand step stateOf atFilled outcomeOf
+  close-line e p = let s : stage ≡ 3 = at-stage 3 (ap (mayStand stage) e) p in rw (e, s)
 
-  pub other-line : form ≡ Is.Other → linesTakenOf (stop (NotOfForm k)) ≡ linesTakenOf (step k (stateOf stage job) form)
-  unfolding step
+  pub other-line : form ≡ Is.Other → NotOfForm k ≡ outcomeOf (step k (stateOf stage job) form)
+  unfolding step outcomeOf
   other-line e = rw e
+
+-- a test of H or K
+pub size-refused : (passed : Bool) (o : Outcome) (s : State) → passed ≡ false → o ≡ outcomeOf (unless passed o (go s))
+unfolding unless outcomeOf
+size-refused passed o s e = rw e
+
+pub size-passed : (passed : Bool) (o : Outcome) (s : State) → passed ≡ true → Accepted ≡ outcomeOf (unless passed o (go s))
+unfolding unless outcomeOf
+size-passed passed o s e = rw e
+
+-- a net stands behind `(tracks K)`
+pub net-stage : (stage : ℕ) (form : Form) (i l r lo hi : ℕ) → form ≡ Is.Net i l r lo hi → mayStand stage form ≡ true → stage ≡ 3
+unfolding mayStand
+net-stage stage form i l r lo hi e t = eqb-true stage 3 (sym (ap (mayStand stage) e) ∙ t)
+
+-- what is held of the nets above a line
+pub nets-above : (a : LinesAbove) (job : StoredJob) → AboveOf a job → Filled job → NetsAbove (jobOf job) (a .board) (a .nnets) (a .last) (a .used)
+nets-above a job h f =
+    record { size-is = h .board-is; count-is = nets-used job f ∙ h .nnets-is; last-is = h .nets-are .last-is; pins = h .nets-are .pins }
+
+-- a line that is not refused stands in its place
+pub stands : (k stage : ℕ) (job : StoredJob) (form : Form) → Passes (step k (stateOf stage job) form) → mayStand stage form ≡ true
+unfolding outcomeOf
+stands k stage job form p =
+    by-test (mayStand stage form) (λ e. e) (λ e. absurd (omega (arith, ap (λ (x : Next). numberOf (outcomeOf x)) (wrong-place k stage job form e))))
+
+-- a line that gives a net or a block
+module _ (k stage : ℕ) (job : StoredJob) where
+  pub net-line : (form : Form) (n : Net) → OfNet n ≡ entryOf form → mayStand stage form ≡ true →
+      (stage ≡ 3) × (step k (stateOf stage job) form ≡ addNet k n (jobOf job))
+  unfolding entryOf mayStand step stateOf atFilled
+  net-line Is.Blank n e t = let z : _≡_ {A = ℕ} 0 1 = cc in absurd (omega arith)
+  net-line Is.Board n e t = let z : _≡_ {A = ℕ} 0 1 = cc in absurd (omega arith)
+  net-line (Is.Rows h) n e t = let z : _≡_ {A = ℕ} 0 1 = cc in absurd (omega arith)
+  net-line (Is.Tracks j) n e t = let z : _≡_ {A = ℕ} 0 1 = cc in absurd (omega arith)
+  net-line (Is.Net i l r lo hi) n e t =
+      let s : stage ≡ 3 = eqb-true stage 3 t in
+      let q : n ≡ netOf i l r lo hi = cc in
+      (s, rw (s, q))
+  net-line (Is.Block j a b) n e t = let z : _≡_ {A = ℕ} 0 1 = cc in absurd (omega arith)
+  net-line Is.Close n e t = let z : _≡_ {A = ℕ} 0 1 = cc in absurd (omega arith)
+  net-line Is.Other n e t = let z : _≡_ {A = ℕ} 0 1 = cc in absurd (omega arith)
+
+  pub block-line : (form : Form) (b : Block) → OfBlock b ≡ entryOf form → mayStand stage form ≡ true →
+      (stage ≡ 3) × (step k (stateOf stage job) form ≡ addBlock k b (jobOf job))
+  unfolding entryOf mayStand step stateOf atFilled
+  block-line Is.Blank b e t = let z : _≡_ {A = ℕ} 0 1 = cc in absurd (omega arith)
+  block-line Is.Board b e t = let z : _≡_ {A = ℕ} 0 1 = cc in absurd (omega arith)
+  block-line (Is.Rows h) b e t = let z : _≡_ {A = ℕ} 0 1 = cc in absurd (omega arith)
+  block-line (Is.Tracks j) b e t = let z : _≡_ {A = ℕ} 0 1 = cc in absurd (omega arith)
+  block-line (Is.Net i l r lo hi) b e t = let z : _≡_ {A = ℕ} 0 1 = cc in absurd (omega arith)
+  block-line (Is.Block j x y) b e t =
+      let s : stage ≡ 3 = eqb-true stage 3 t in
+      let q : b ≡ blockOf j x y = cc in
+      (s, rw (s, q))
+  block-line Is.Close b e t = let z : _≡_ {A = ℕ} 0 1 = cc in absurd (omega arith)
+  block-line Is.Other b e t = let z : _≡_ {A = ℕ} 0 1 = cc in absurd (omega arith)

@@ -1,14 +1,16 @@
 -- The loop of read: the lines that are left decide. Assumes nothing.
 use mathlib.Core.Path.{_≡_, refl, sym, ap, _∙_}
-use mathlib.Core.Bool.{true, false, false≢true}
-use mathlib.Core.List.{List}
+use mathlib.Core.List.{List, []}
 use Prim.Native.Nat.{ℕ, zero, suc, _+_, _-_, _≤_, _<_}
 use native.Mathlib.Omega.{arith}
 use native.Mathlib.Numerals.{add-one}
-use lib.ListN.{length, take, drop}
+use lib.ListN.{length, take, drop, set}
 use borrow.Author.Tests.{le-leb, lt-leb}
+use Rattle.board.specs.declared.Net.{Net}
+use Rattle.board.specs.declared.Block.{Block}
 use Rattle.board.specs.declared.StoredJob.{StoredJob}
-use Rattle.board.specs.Stored.{storedOf}
+use Rattle.board.specs.Accepted.{BoardInRange}
+use Rattle.board.specs.Stored.{jobOf, storedOf}
 use Rattle.text.specs.Bytes.{lines}
 use Rattle.lines.specs.Places.{stepAt}
 use Rattle.lines.specs.declared.Step.{Step}
@@ -16,18 +18,21 @@ use Rattle.lines.specs.declared.Step.the-variants.{Line, End}
 use Rattle.lines.specs.Stepped.{Stepped}
 use Rattle.lines.proofs.Steps.{stepped, end-of-lines}
 use Rattle.jobfile.specs.declared.Form.{Form}
-use Rattle.jobfile.specs.declared.Form.the-variants as Is
+use Rattle.jobfile.specs.declared.Outcome.{Outcome}
 use Rattle.jobfile.specs.declared.Outcome.the-variants.{Accepted, TooLong, NotOfForm}
 use Rattle.jobfile.specs.Forms.{readForm}
-use Rattle.jobfile.specs.Read.{State, start, Next, go, stop, step, Read, ended, follow, readFrom, readJob}
+use Rattle.jobfile.specs.Read.{State, start, Next, go, stop, boardOf, step, Read, refused, ended, follow, readFrom, readJob}
 use Rattle.jobfile.specs.Answers.{numberOf, noJob, answerOf}
-use Rattle.jobfile.specs.Faults.{isBlank}
+use Rattle.jobrules.specs.Rules.{outcomeOf, RowsInRange}
+use Rattle.jobrules.proofs.Outcomes.{Passes}
 use Rattle.reader.specs.Cursors.{formOn, formStep}
-use Rattle.reader.specs.LinesTaken.{stateOf, linesTakenOf, Held}
+use Rattle.reader.specs.LinesAbove.{entryOf, headAfter, stateOf, stageOf, valueOf, Filled, Held, jobAbove, PinsAbove, NothingAbove, AboveOf, NetAfter}
 use Rattle.reader.specs.declared.Cursor.{Cursor}
 use Rattle.reader.specs.declared.FormStep.the-variants as At
-use Rattle.reader.specs.declared.LinesTaken.{LinesTaken}
-use Rattle.reader.proofs.States.{LeadsOn, state-back, held-of, held-good, go-accepted, step-sound}
+use Rattle.reader.specs.declared.LinesAbove.{LinesAbove}
+use Rattle.reader.specs.declared.Entry.the-variants.{OfNet, OfBlock, Nothing}
+use Rattle.reader.proofs.States.{SizedState, LeadsOn, state-back, held-of, held-good, step-sound}
+use Rattle.reader.proofs.Taken.{GoesOn, head-on, head-nets, net-room, net-rows, net-on, net-nets, block-room, block-on, block-nets}
 
 -- the line behind a form that was read
 
@@ -49,46 +54,50 @@ unfolding formOn
 none-left s (Line from to next) q = let z : _≡_ {A = ℕ} 0 1 = cc in absurd (omega arith)
 none-left s End q = refl
 
--- what a line that was taken leads to
+-- what a line leads to
 
-blank-form : (x : Form) → isBlank x ≡ true → x ≡ Is.Blank
-blank-form Is.Blank e = refl
-blank-form Is.Board e = absurd (false≢true e)
-blank-form (Is.Rows h) e = absurd (false≢true e)
-blank-form (Is.Tracks k) e = absurd (false≢true e)
-blank-form (Is.Net i l r lo hi) e = absurd (false≢true e)
-blank-form (Is.Block t a b) e = absurd (false≢true e)
-blank-form Is.Close e = absurd (false≢true e)
-blank-form Is.Other e = absurd (false≢true e)
+goes-held : (k : ℕ) (y : Next) (stage : ℕ) (job : StoredJob) → LeadsOn k y → (g : GoesOn y stage job) → (stateOf stage job ≡ g .state) × Held stage job
+goes-held k y stage job l g =
+    let sized-state : SizedState (g .state) = rw (g .goes) at l in
+    let back : stateOf stage job ≡ g .state = rw (← g .stage-is, ← g .value-is) (state-back (g .state)) in
+    let held : Held stage job = rw (← g .stage-is, ← g .value-is) (held-of (g .state) sized-state) in
+    (back, held)
 
-record Goes (y : Next) (t : LinesTaken) : Type 0 where
-  on : y ≡ go (stateOf (t .stage) (t .job))
-  held : Held (t .stage) (t .job)
+stops : (y : Next) (f : State → Read) (o : Outcome) → o ≡ outcomeOf y → (numberOf o ≡ 0 → ⊥) → answerOf (refused o) ≡ answerOf (follow y f)
+unfolding outcomeOf follow
+stops (go s) f o e h = absurd (h (ap numberOf e))
+stops (stop q) f o e h = ap (λ (x : Outcome). answerOf (refused x)) e
 
-goes : (k : ℕ) (y : Next) (t : LinesTaken) → LeadsOn k y → t ≡ linesTakenOf y → numberOf (t .outcome) ≡ 0 → Goes y t
-unfolding linesTakenOf
-goes k (go s) t g e z = rw e (record { on = ap go (sym (state-back s)); held = held-of s g })
-goes k (stop o) t g e z = absurd (g .0 (sym (ap (λ (p : LinesTaken). numberOf (p .outcome)) e) ∙ z))
-
-stops : (y : Next) (f : State → Read) (t : LinesTaken) → t ≡ linesTakenOf y → (numberOf (t .outcome) ≡ 0 → ⊥) →
-    record { outcome = t .outcome; job = t .job } ≡ answerOf (follow y f)
-unfolding linesTakenOf follow answerOf
-stops (go s) f t e h = absurd (h (ap (λ (p : LinesTaken). numberOf (p .outcome)) e ∙ ap numberOf (go-accepted s)))
-stops (stop o) f t e h = ap (λ (p : LinesTaken). record { outcome = p .outcome; job = p .job }) e
-
--- a text whose lines from the reading place on are left, where a stage and a job hold those above
-pub record LinesLeft (s : List ℕ) (stage : ℕ) (job : StoredJob) (p : Cursor) : Type 0 where
-  pub held : Held stage job
+-- a text whose lines from the reading place on are left, where those above are held
+pub record LinesLeft (s : List ℕ) (a : LinesAbove) (slots : StoredJob) (p : Cursor) : Type 0 where
+  pub held : Held (a .stage) (jobAbove a slots)
+  pub nets-are : PinsAbove (jobOf (jobAbove a slots) .nets) a
   pub counted : p .place .passed ≤ p .place .at
   pub inside : p .place .at ≤ length s
-  pub rest : readFrom 1 start (lines s) ≡ readFrom (suc (p .place .passed)) (stateOf stage job) (lines (drop (p .place .at) s))
+  pub rest : readFrom 1 start (lines s) ≡ readFrom (suc (p .place .passed)) (stateOf (a .stage) (jobAbove a slots)) (lines (drop (p .place .at) s))
 
-pub left-start : (s : List ℕ) (job : StoredJob) (p : Cursor) → job ≡ storedOf noJob → p .place .at ≡ 0 → p .place .passed ≡ 0 → LinesLeft s 0 job p
-unfolding stateOf linesTakenOf
-left-start s job p e f h =
-    record { held = rw e (held-of start tt); counted = omega arith; inside = omega arith; rest = rw (f, h) }
+pub left-start : (s : List ℕ) (a : LinesAbove) (slots : StoredJob) (p : Cursor) → NothingAbove a → slots ≡ storedOf noJob → p .place .at ≡ 0 → p .place .passed ≡ 0 → LinesLeft s a slots p
+unfolding stateOf stageOf valueOf storedOf
+left-start s a slots p b e f h =
+    let t : take (a .nnets) (slots .nets) ≡ [] = ap (λ (i : ℕ). take i (slots .nets)) (b .nnets-is) in
+    let v : storedOf noJob ≡ jobAbove a slots =
+      λ i. record { board = sym (b .board-is) i; nnets = sym (b .nnets-is) i; nblocks = sym (b .nblocks-is) i; nets = sym e i .nets; blocks = sym e i .blocks } in
+    record {
+      held = rw (b .stage-is) (record { stage-is = refl; value = v; ranges = tt });
+      nets-are = rw t (b .nets-are);
+      counted = omega arith;
+      inside = omega arith;
+      rest = rw (b .stage-is, f, h);
+    }
 
-module _ (s : List ℕ) (stage : ℕ) (job : StoredJob) (p : Cursor) (w : LinesLeft s stage job p) where
+module _ (s : List ℕ) (a : LinesAbove) (slots : StoredJob) (p : Cursor) (w : LinesLeft s a slots p) where
+  -- what is held of the lines above is that of the job so far
+  pub left-above : AboveOf a (jobAbove a slots)
+  left-above = record { held = w .held; board-is = refl; nnets-is = refl; nblocks-is = refl; nets-are = w .nets-are }
+
+  pub left-size : a .stage ≡ 3 → BoardInRange (a .board)
+  left-size e = let f : Filled (jobAbove a slots) = rw e at (w .held .ranges) in f .board-range
+
   module _ (x : Form) (n : Cursor) (e : At.Read x n ≡ formStep s p) where
     seen : Behind s (stepAt s (p .place)) x n
     unfolding formStep
@@ -98,7 +107,7 @@ module _ (s : List ℕ) (stage : ℕ) (job : StoredJob) (p : Cursor) (w : LinesL
     moved = stepped s (p .place) (seen .from) (seen .to) (n .place) (sym (seen .line))
 
     abbrev led : Next
-    led = step (p .place .passed + 1) (stateOf stage job) x
+    led = step (p .place .passed + 1) (stateOf (a .stage) (jobAbove a slots)) x
 
     turn : readFrom 1 start (lines s) ≡ follow led (λ t. readFrom (suc (n .place .passed)) t (lines (drop (n .place .at) s)))
     unfolding readFrom
@@ -112,44 +121,65 @@ module _ (s : List ℕ) (stage : ℕ) (job : StoredJob) (p : Cursor) (w : LinesL
     pub left-within : n .place .at ≤ length s
     left-within = moved .within
 
-    counted-next : n .place .passed ≤ n .place .at
-    counted-next = omega (arith, moved .counted, moved .ahead, w .counted)
-
-    pub left-blank : isBlank x ≡ true → LinesLeft s stage job n
-    unfolding step follow
-    left-blank b =
+    left-on : (r : LinesAbove) (more : StoredJob) → GoesOn led (r .stage) (jobAbove r more) → PinsAbove (jobOf (jobAbove r more) .nets) r → LinesLeft s r more n
+    unfolding follow
+    left-on r more g t =
+        let l = step-sound (p .place .passed + 1) (stateOf (a .stage) (jobAbove a slots)) x (held-good (a .stage) (jobAbove a slots) (w .held)) in
+        let y = goes-held (p .place .passed + 1) led (r .stage) (jobAbove r more) l g in
         record {
-          held = w .held;
-          counted = counted-next;
+          held = y .1;
+          nets-are = t;
+          counted = omega (arith, moved .counted, moved .ahead, w .counted);
           inside = moved .within;
-          rest = turn ∙ rw (blank-form x b);
+          rest = turn ∙ rw (g .goes, y .0);
         }
 
-    module _ (t : LinesTaken) (k : t ≡ linesTakenOf led) where
-      pub left-more : numberOf (t .outcome) ≡ 0 → LinesLeft s (t .stage) (t .job) n
-      unfolding follow
-      left-more z =
-          let g = goes (p .place .passed + 1) led t (step-sound (p .place .passed + 1) (stateOf stage job) x (held-good stage job (w .held))) k z in
-          record {
-            held = g .held;
-            counted = counted-next;
-            inside = moved .within;
-            rest = turn ∙ rw (g .on);
-          }
+    module _ (o : Outcome) (q : o ≡ outcomeOf led) where
+      pub left-refused : (numberOf o ≡ 0 → ⊥) → answerOf (refused o) ≡ answerOf (readFrom 1 start (lines s))
+      left-refused h = stops led _ o q h ∙ ap answerOf (sym turn)
 
-      pub left-refused : (numberOf (t .outcome) ≡ 0 → ⊥) → record { outcome = t .outcome; job = t .job } ≡ answerOf (readFrom 1 start (lines s))
-      left-refused h = stops led _ t k h ∙ ap answerOf (sym turn)
+      module _ (z : numberOf o ≡ 0) where
+        passes : Passes led
+        passes = sym (ap numberOf q) ∙ z
+
+        pub left-head : (r : LinesAbove) → Nothing ≡ entryOf x → r ≡ headAfter a x → LinesLeft s r slots n
+        left-head r t k =
+            rw k
+            (left-on (headAfter a x) slots (head-on (p .place .passed + 1) a slots (w .held) x t passes)
+            (head-nets (p .place .passed + 1) a slots (w .held) x (w .nets-are)))
+
+        module _ (m : Net) (t : OfNet m ≡ entryOf x) where
+          pub left-room : a .nnets < 512
+          left-room = net-room (p .place .passed + 1) a slots (w .held) x m t passes
+
+          pub left-rows : RowsInRange m
+          left-rows = net-rows (p .place .passed + 1) a slots (w .held) x m t passes
+
+          pub left-net : (r : LinesAbove) (more : StoredJob) → NetAfter a m r → more .nets ≡ set (slots .nets) (a .nnets) m → more .blocks ≡ slots .blocks → LinesLeft s r more n
+          left-net r more k g b =
+              left-on r more (net-on (p .place .passed + 1) a slots (w .held) x m t passes r k more g b)
+              (net-nets (p .place .passed + 1) a slots (w .held) x m t passes r k more g b (w .nets-are))
+
+        module _ (b : Block) (t : OfBlock b ≡ entryOf x) where
+          pub left-block-room : a .nblocks < 256
+          left-block-room = block-room (p .place .passed + 1) a slots (w .held) x b t passes
+
+          pub left-block : (more : StoredJob) → more .nets ≡ slots .nets → more .blocks ≡ set (slots .blocks) (a .nblocks) b →
+              LinesLeft s (record { stage = a .stage; board = a .board; nnets = a .nnets; nblocks = a .nblocks + 1; last = a .last; used = a .used }) more n
+          left-block more g c =
+              left-on _ more (block-on (p .place .passed + 1) a slots (w .held) x b t passes more g c)
+              (block-nets (p .place .passed + 1) a slots (w .held) x b t passes more g c (w .nets-are))
 
   -- the end of the text
-  pub left-over : At.End ≡ formStep s p → ended (p .place .passed + 1) (stateOf stage job) ≡ readFrom 1 start (lines s)
+  pub left-over : At.End ≡ formStep s p → ended (p .place .passed + 1) (stateOf (a .stage) (jobAbove a slots)) ≡ readFrom 1 start (lines s)
   unfolding formStep readFrom
   left-over e = sym (w .rest ∙ (rw (end-of-lines s (p .place) (none-left s (stepAt s (p .place)) e) .0, add-one (p .place .passed))))
 
 -- the length is tested first
 
-pub too-long : (s : List ℕ) (job : StoredJob) → 64000 < length s → job ≡ storedOf noJob → record { outcome = TooLong; job = job } ≡ answerOf (readJob s)
-unfolding readJob answerOf
-too-long s job h e = rw (lt-leb (length s) 64000 h, e)
+pub too-long : (s : List ℕ) → 64000 < length s → answerOf (refused TooLong) ≡ answerOf (readJob s)
+unfolding readJob
+too-long s h = rw (lt-leb (length s) 64000 h)
 
 pub not-too-long : (s : List ℕ) → length s ≤ 64000 → readFrom 1 start (lines s) ≡ readJob s
 unfolding readJob
@@ -157,14 +187,13 @@ not-too-long s h = rw (le-leb (length s) 64000 h)
 
 -- the answer at the end
 
-pub ends-early : (stage : ℕ) (job nothing : StoredJob) (k : ℕ) → stage < 4 → nothing ≡ storedOf noJob →
-    record { outcome = NotOfForm k; job = nothing } ≡ answerOf (ended k (stateOf stage job))
-unfolding stateOf ended answerOf
-ends-early zero job nothing k h e = rw e
-ends-early (suc zero) job nothing k h e = rw e
-ends-early (suc (suc zero)) job nothing k h e = rw e
-ends-early (suc (suc (suc zero))) job nothing k h e = rw e
-ends-early (suc (suc (suc (suc stage)))) job nothing k h e = absurd (omega arith)
+pub ends-early : (stage : ℕ) (job : StoredJob) (k : ℕ) → stage < 4 → answerOf (refused (NotOfForm k)) ≡ answerOf (ended k (stateOf stage job))
+unfolding stateOf ended
+ends-early zero job k h = refl
+ends-early (suc zero) job k h = refl
+ends-early (suc (suc zero)) job k h = refl
+ends-early (suc (suc (suc zero))) job k h = refl
+ends-early (suc (suc (suc (suc stage)))) job k h = absurd (omega arith)
 
 pub ends-well : (stage : ℕ) (job : StoredJob) (k : ℕ) → Held stage job → 4 ≤ stage →
     record { outcome = Accepted; job = job } ≡ answerOf (ended k (stateOf stage job))

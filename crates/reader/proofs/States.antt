@@ -16,15 +16,13 @@ use Rattle.board.specs.Stored.{jobOf, storedOf}
 use Rattle.jobfile.specs.declared.Form.{Form}
 use Rattle.jobfile.specs.declared.Form.the-variants as Is
 use Rattle.jobfile.specs.declared.Outcome.{Outcome}
-use Rattle.jobfile.specs.declared.Outcome.the-variants.{Accepted, NotOfForm}
+use Rattle.jobfile.specs.declared.Outcome.the-variants.{NotOfForm}
 use Rattle.jobfile.specs.Read.{State, start, opened, sized, filled, closed, Next, go, stop, unless, atStart, atOpened, atSized, atFilled, netOf, blockOf, boardOf, emptyBoard, addNet, addBlock, step}
 use Rattle.jobfile.specs.Answers.{numberOf, lineOf}
 use Rattle.jobfile.proofs.Tests.{within-is}
 use Rattle.board.proofs.StoredJobs.{job-back}
-use Rattle.jobrules.specs.Rules.{Filled}
-use Rattle.reader.specs.LinesTaken.{stateOf, onward, linesTakenOf, FilledAt, Held}
-use Rattle.reader.specs.declared.LinesTaken.{LinesTaken}
-use Rattle.jobrules.proofs.Slots.{nets-used, blocks-used}
+use Rattle.reader.specs.LinesAbove.{stateOf, stageOf, valueOf, Filled, FilledAt, Held}
+use Rattle.reader.proofs.Slots.{nets-used, blocks-used}
 
 -- a job whose size is in range and that has room for its nets and blocks
 pub record Sized (job : Job) : Type 0 where
@@ -51,35 +49,24 @@ stored-filled job g =
       blocks-count = g .blocks-count;
     }
 
-pub state-back : (s : State) → stateOf (linesTakenOf (go s) .stage) (linesTakenOf (go s) .job) ≡ s
-unfolding stateOf linesTakenOf storedOf
+pub state-back : (s : State) → stateOf (stageOf s) (valueOf s) ≡ s
+unfolding stateOf stageOf valueOf storedOf
 state-back start = refl
 state-back opened = refl
 state-back (sized h) = refl
 state-back (filled job) = ap filled (job-back job)
 state-back (closed job) = ap closed (job-back job)
 
-same-progress : (s : State) → linesTakenOf (go s) ≡ onward (linesTakenOf (go s) .stage) (linesTakenOf (go s) .job)
-unfolding linesTakenOf
-same-progress start = refl
-same-progress opened = refl
-same-progress (sized h) = refl
-same-progress (filled job) = refl
-same-progress (closed job) = refl
-
-ranges-of : (s : State) → SizedState s → FilledAt (linesTakenOf (go s) .stage) (linesTakenOf (go s) .job)
-unfolding linesTakenOf storedOf
+ranges-of : (s : State) → SizedState s → FilledAt (stageOf s) (valueOf s)
+unfolding stageOf valueOf storedOf
 ranges-of start g = tt
 ranges-of opened g = tt
 ranges-of (sized h) g = g
 ranges-of (filled job) g = stored-filled job g
 ranges-of (closed job) g = stored-filled job g
 
-pub held-of : (s : State) → SizedState s → Held (linesTakenOf (go s) .stage) (linesTakenOf (go s) .job)
-held-of s g = record { value = rw (state-back s) (same-progress s); ranges = ranges-of s g }
-
-pub go-accepted : (s : State) → linesTakenOf (go s) .outcome ≡ Accepted
-go-accepted s = ap (λ (p : LinesTaken). p .outcome) (same-progress s)
+pub held-of : (s : State) → SizedState s → Held (stageOf s) (valueOf s)
+held-of s g = record { stage-is = ap stageOf (state-back s); value = ap valueOf (state-back s); ranges = ranges-of s g }
 
 filled-sized : (job : StoredJob) → Filled job → Sized (jobOf job)
 filled-sized job f =

@@ -1,5 +1,6 @@
 // Read: a text becomes a job by value, or a refusal that names its line.
 use board::Block;
+use board::Board;
 use board::Net;
 use board::Row;
 use board::StoredJob;
@@ -7,20 +8,21 @@ use board::Track;
 use jobfile::Answer;
 use jobfile::Form;
 use jobfile::Outcome;
+use jobrules::UsedPins;
 use lines::Place;
 use lines::Step;
 ghost use mathlib.Core.Path.{_≡_};
-ghost use Prim.Native.Nat.{_≤_};
+ghost use Prim.Native.Nat.{_≤_, _<_};
 ghost use lib.ListN.{length};
-ghost use Rattle.board.specs.Stored.{jobOf};
+ghost use Rattle.board.specs.Accepted.{BoardInRange};
+ghost use Rattle.text.specs.Bytes.{lines};
 ghost use Rattle.text.specs.Written.{Written};
-ghost use Rattle.jobfile.specs.Read.{within, boardOf, emptyBoard, addNet, addBlock, unless, go, stop, sized, filled, step, ended, readJob};
+ghost use Rattle.jobfile.specs.Read.{State, start, within, unless, go, step, ended, refused, readFrom, readJob};
 ghost use Rattle.jobfile.specs.Answers.{answerOf};
-ghost use Rattle.jobfile.specs.Faults.{isBlank};
 ghost use Rattle.jobfile.specs.RightAnswer.{RightAnswer};
-ghost use Rattle.jobrules.specs.Rules.{Filled};
+ghost use Rattle.jobrules.specs.Rules.{outcomeOf, RowsInRange};
 ghost use Rattle.reader.specs.Cursors.{formStep};
-ghost use Rattle.reader.specs.LinesTaken.{mayStand, stateOf, onward, linesTakenOf, Held};
+ghost use Rattle.reader.specs.LinesAbove.{mayStand, entryOf, headAfter, stateOf, Held, jobAbove, NothingAbove, AboveOf, NetAfter};
 ghost use Rattle.reader.specs.Reports.{refusedText, reportText};
 
 // The reading place: it moves on by a whole line, never back.
@@ -51,11 +53,22 @@ const FILLED: usize = 3;
 // The closing bracket too.
 const CLOSED: usize = 4;
 
-// What the lines above hold: the outcome of the last of them, the stage that they come to, and the job so far.
-struct LinesTaken {
-    pub outcome: Outcome,
+// What the lines above come to, but for the nets and blocks themselves: the stage, the size of the board, how many nets and blocks there
+// are, the number of the last net, and the pins that the nets use. It goes by value, some 300 bytes, where the job has 26,000.
+struct LinesAbove {
     pub stage: usize,
-    pub job: StoredJob,
+    pub board: Board,
+    pub nnets: usize,
+    pub nblocks: usize,
+    pub last: usize,
+    pub used: UsedPins,
+}
+
+// What a line adds to the job.
+enum Entry {
+    OfNet(Net),
+    OfBlock(Block),
+    Nothing,
 }
 
 impl Cursor {
@@ -86,80 +99,90 @@ impl Cursor {
     }
 }
 
-// A line that is refused: nothing is held any more.
-fn line_refused(outcome: Outcome) -> LinesTaken
-    ensures { λ r. ⌜ r ≡ linesTakenOf (stop outcome) ⌝ }
+// Nothing stands above.
+fn nothing_above() -> LinesAbove
+    ensures { λ r. ⌜ NothingAbove r ⌝ }
 {
-    let job = jobrules::empty_job(0, 0);
-    LinesTaken {
-        outcome,
+    let used = jobrules::no_pins();
+    LinesAbove {
         stage: START,
-        job,
+        board: Board { rows: 0, tracks: 0 },
+        nnets: 0,
+        nblocks: 0,
+        last: 0,
+        used,
     }
 }
 
-// A line that is accepted: the lines go on.
-fn line_accepted(stage: usize, job: StoredJob) -> LinesTaken
-    ensures { λ r. ⌜ r ≡ onward stage job ⌝ }
+// What is held behind a net more.
+fn net_after(above: LinesAbove, net: Net) -> LinesAbove
+    requires { ⌜ (above .nnets < 512) × RowsInRange net ⌝ }
+    ensures { λ r. ⌜ NetAfter above net r ⌝ }
 {
-    LinesTaken {
-        outcome: Outcome::Accepted,
-        stage,
-        job,
+    let used = jobrules::with_pins(above.used, net);
+    LinesAbove {
+        nnets: above.nnets + 1,
+        last: net.number,
+        used,
+        ..above
     }
 }
 
-// The line `(rows H)` in its place.
-fn take_rows(h: usize, line: usize) -> LinesTaken
-    ensures { λ r. ⌜ r ≡ linesTakenOf (unless (within 1 1024 h) (Outcome.OutOfRange line) (go (sized h))) ⌝ }
+// What is held behind a line that gives neither a net nor a block: the next stage, and H and K where the line has them.
+fn head_after(above: LinesAbove, form: Form) -> LinesAbove
+    ensures { λ r. ⌜ r ≡ headAfter above form ⌝ }
 {
-    if !jobrules::is_within(1, 1024, h) {
-        return line_refused(Outcome::OutOfRange(line));
-    }
-    line_accepted(SIZED, jobrules::empty_job(h, 0))
-}
-
-// The line `(tracks K)` in its place.
-fn take_tracks(h: usize, k: usize, line: usize) -> LinesTaken
-    ensures { λ r. ⌜ r ≡ linesTakenOf (unless (within 1 128 k) (Outcome.OutOfRange line) (go (filled (emptyBoard (boardOf h k))))) ⌝ }
-{
-    if !jobrules::is_within(1, 128, k) {
-        return line_refused(Outcome::OutOfRange(line));
-    }
-    line_accepted(FILLED, jobrules::empty_job(h, k))
-}
-
-// A net in its place.
-fn take_net(job: StoredJob, net: Net, line: usize) -> LinesTaken
-    requires { ⌜ Filled job ⌝ }
-    ensures { λ r. ⌜ r ≡ linesTakenOf (addNet line net (jobOf job)) ⌝ }
-{
-    let outcome = jobrules::net_outcome(job, net, line);
-    if jobrules::number_of(outcome) != 0 {
-        return line_refused(outcome);
-    }
-    let more = jobrules::with_net(job, net);
-    LinesTaken {
-        outcome,
-        stage: FILLED,
-        job: more,
+    let mut next = above;
+    match form {
+        Form::Blank => next,
+        Form::Board => {
+            next.stage = OPENED;
+            next
+        }
+        Form::Rows(h) => {
+            next.stage = SIZED;
+            next.board.rows = h;
+            next.board.tracks = 0;
+            next
+        }
+        Form::Tracks(k) => {
+            next.stage = FILLED;
+            next.board.tracks = k;
+            next
+        }
+        Form::Net(_, _, _, _, _) => next,
+        Form::Block(_, _, _) => next,
+        Form::Close => {
+            next.stage = CLOSED;
+            next
+        }
+        Form::Other => next,
     }
 }
 
-// A block in its place.
-fn take_block(job: StoredJob, block: Block, line: usize) -> LinesTaken
-    requires { ⌜ Filled job ⌝ }
-    ensures { λ r. ⌜ r ≡ linesTakenOf (addBlock line block (jobOf job)) ⌝ }
+// The net or the block that a line of this form gives.
+fn entry_of(form: Form) -> Entry
+    ensures { λ r. ⌜ r ≡ entryOf form ⌝ }
 {
-    let outcome = jobrules::block_outcome(job, block, line);
-    if jobrules::number_of(outcome) != 0 {
-        return line_refused(outcome);
-    }
-    let more = jobrules::with_block(job, block);
-    LinesTaken {
-        outcome,
-        stage: FILLED,
-        job: more,
+    match form {
+        Form::Blank => Entry::Nothing,
+        Form::Board => Entry::Nothing,
+        Form::Rows(_) => Entry::Nothing,
+        Form::Tracks(_) => Entry::Nothing,
+        Form::Net(number, left, right, min, max) => Entry::OfNet(Net {
+            number,
+            left: Row(left),
+            right: Row(right),
+            min,
+            max,
+        }),
+        Form::Block(track, first, last) => Entry::OfBlock(Block {
+            track: Track(track),
+            first: Row(first),
+            last: Row(last),
+        }),
+        Form::Close => Entry::Nothing,
+        Form::Other => Entry::Nothing,
     }
 }
 
@@ -179,19 +202,29 @@ fn form_stands(stage: usize, form: Form) -> bool
     }
 }
 
-// What a line of a form leads to, below what the lines above hold.
-fn take_form(stage: usize, job: StoredJob, form: Form, line: usize) -> LinesTaken
-    requires { ⌜ Held stage job ⌝ }
-    ensures { λ r. ⌜ r ≡ linesTakenOf (step line (stateOf stage job) form) ⌝ }
+// Refusal 3 of H or K: it has to be from 1 to `most`.
+fn size_outcome(most: usize, x: usize, line: usize) -> Outcome
+    ensures { λ r. ⌜ ((s : State) → r ≡ outcomeOf (unless (within 1 most x) (Outcome.OutOfRange line) (go s))) ⌝ }
 {
-    if !form_stands(stage, form) {
-        return line_refused(Outcome::NotOfForm(line));
+    if !jobrules::is_within(1, most, x) {
+        return Outcome::OutOfRange(line);
+    }
+    Outcome::Accepted
+}
+
+// Refusals 2 to 9 of a line, the first that fits.
+fn form_outcome(above: LinesAbove, form: Form, line: usize) -> Outcome
+    requires { ⌜ (above .stage ≡ 3 → BoardInRange (above .board)) ⌝ }
+    ensures { λ r. ⌜ ((job : StoredJob) → AboveOf above job → r ≡ outcomeOf (step line (stateOf (above .stage) job) form)) ⌝ }
+{
+    if !form_stands(above.stage, form) {
+        return Outcome::NotOfForm(line);
     }
     match form {
-        Form::Blank => line_accepted(stage, job),
-        Form::Board => line_accepted(OPENED, job),
-        Form::Rows(h) => take_rows(h, line),
-        Form::Tracks(k) => take_tracks(job.board.rows, k, line),
+        Form::Blank => Outcome::Accepted,
+        Form::Board => Outcome::Accepted,
+        Form::Rows(h) => size_outcome(1024, h, line),
+        Form::Tracks(k) => size_outcome(128, k, line),
         Form::Net(number, left, right, min, max) => {
             let net = Net {
                 number,
@@ -200,7 +233,7 @@ fn take_form(stage: usize, job: StoredJob, form: Form, line: usize) -> LinesTake
                 min,
                 max,
             };
-            take_net(job, net, line)
+            jobrules::net_outcome(above.board, above.nnets, above.last, above.used, net, line)
         }
         Form::Block(track, first, last) => {
             let block = Block {
@@ -208,86 +241,86 @@ fn take_form(stage: usize, job: StoredJob, form: Form, line: usize) -> LinesTake
                 first: Row(first),
                 last: Row(last),
             };
-            take_block(job, block, line)
+            jobrules::block_outcome(above.board, above.nblocks, block, line)
         }
-        Form::Close => line_accepted(CLOSED, job),
-        Form::Other => line_refused(Outcome::NotOfForm(line)),
+        Form::Close => Outcome::Accepted,
+        Form::Other => Outcome::NotOfForm(line),
     }
 }
 
-// Whether a line is blank.
-fn is_blank(form: Form) -> bool
-    ensures { λ r. ⌜ r ≡ isBlank form ⌝ }
+// A refusal, which hands out no job.
+fn refusal(outcome: Outcome) -> Answer
+    ensures { λ r. ⌜ r ≡ answerOf (refused outcome) ⌝ }
 {
-    match form {
-        Form::Blank => true,
-        Form::Board => false,
-        Form::Rows(_) => false,
-        Form::Tracks(_) => false,
-        Form::Net(_, _, _, _, _) => false,
-        Form::Block(_, _, _) => false,
-        Form::Close => false,
-        Form::Other => false,
-    }
+    let job = jobrules::empty_job(0, 0);
+    Answer { outcome, job }
 }
 
 // The end of a text, where `line` is the line after the last: a text without its closing bracket ends early.
-fn finish(stage: usize, job: StoredJob, line: usize) -> Answer
-    requires { ⌜ Held stage job ⌝ }
-    ensures { λ r. ⌜ r ≡ answerOf (ended line (stateOf stage job)) ⌝ }
+fn finish(above: LinesAbove, slots: StoredJob, line: usize) -> Answer
+    requires { ⌜ Held (above .stage) (jobAbove above slots) ⌝ }
+    ensures { λ r. ⌜ r ≡ answerOf (ended line (stateOf (above .stage) (jobAbove above slots))) ⌝ }
 {
-    if stage < CLOSED {
-        let empty = jobrules::empty_job(0, 0);
-        return Answer {
-            outcome: Outcome::NotOfForm(line),
-            job: empty,
-        };
+    if above.stage < CLOSED {
+        return refusal(Outcome::NotOfForm(line));
     }
+    let size = above.board;
+    let mut job = slots;
+    job.board.rows = size.rows;
+    job.board.tracks = size.tracks;
+    job.nnets = above.nnets;
+    job.nblocks = above.nblocks;
     Answer {
         outcome: Outcome::Accepted,
         job,
     }
 }
 
-// Reads a job: the length first, then line by line, up to the first line that is refused.
+// Reads the lines of a job, up to the first that is refused. The nets and blocks go into the slots of one job, which is copied for no line.
+fn read_lines(text: &[u8]) -> Answer
+    requires { ⌜ length (now text) ≤ 64000 ⌝ }
+    ensures { λ r. ⌜ r ≡ answerOf (readFrom 1 start (lines (now (text .entry)))) ⌝ }
+{
+    let mut slots = jobrules::empty_job(0, 0);
+    let mut above = nothing_above();
+    let mut cursor = Cursor::start();
+    loop {
+        let line = cursor.place.passed + 1;
+        let FormStep::Read { form, next } = cursor.next(text) else {
+            return finish(above, slots, line);
+        };
+        cursor = next;
+        let outcome = form_outcome(above, form, line);
+        if jobrules::number_of(outcome) != 0 {
+            return refusal(outcome);
+        }
+        match entry_of(form) {
+            Entry::OfNet(net) => {
+                let i = above.nnets;
+                slots.nets[i] = net;
+                above = net_after(above, net);
+            }
+            Entry::OfBlock(block) => {
+                let i = above.nblocks;
+                slots.blocks[i] = block;
+                above.nblocks = i + 1;
+            }
+            Entry::Nothing => {
+                above = head_after(above, form);
+            }
+        }
+    }
+}
+
+// Reads a job: the length first, then line by line.
 pub fn read(text: &[u8]) -> Answer
     ensures { λ r. ⌜ r ≡ answerOf (readJob (now (text .entry))) ⌝ }
     ensures { λ r. ⌜ RightAnswer (now (text .entry)) r ⌝ }
 {
-    let mut job = jobrules::empty_job(0, 0);
     if 64000 < text.len() {
-        return Answer {
-            outcome: Outcome::TooLong,
-            job,
-        };
+        return refusal(Outcome::TooLong);
     }
-    let mut stage = START;
-    let mut cursor = Cursor::start();
-    loop {
-        match cursor.next(text) {
-            FormStep::Read { form, next } => {
-                let line = cursor.place.passed + 1;
-                cursor = next;
-                if is_blank(form) {
-                    continue;
-                }
-                let after = take_form(stage, job, form, line);
-                let outcome = after.outcome;
-                if jobrules::number_of(outcome) != 0 {
-                    let nothing = after.job;
-                    return Answer {
-                        outcome,
-                        job: nothing,
-                    };
-                }
-                stage = after.stage;
-                job = after.job;
-            }
-            FormStep::End => {
-                return finish(stage, job, cursor.place.passed + 1);
-            }
-        }
-    }
+    read_lines(text)
 }
 
 // Writes the line that a refusal prints.

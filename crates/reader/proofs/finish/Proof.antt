@@ -1,17 +1,18 @@
--- `reader::finish` meets its contract. Assumes nothing.
+-- `reader::finish` meets its contract: the closing bracket was read, or the text ends early. Assumes nothing.
+use mathlib.Core.Path.{_∙_}
 use Rattle.reader.proofs.Reading.{ends-early, ends-well}
 use borrow.Author.Needs.{needs}
 use Rattle.reader.proofs.finish.Statement.{statement}
 use Rattle.reader.proofs.finish.Tie as tie
 
-empty-job-requires : tie.Need-empty-job-requires
-empty-job-requires c κs = search needs
+refusal-requires : tie.Need-refusal-requires
+refusal-requires c κs = search needs
 
 returns : tie.Need-returns
-returns c = ends-early _ _ _ _ (c .before .if1 .taken) (c .empty-job .ensures)
+returns c = c .refusal .ensures ∙ ends-early _ _ _ (c .before .if1 .taken)
 
 returns-2 : tie.Need-returns-2
-returns-2 c = ends-well _ _ _ (c .before .pre) (c .if1 .left)
+returns-2 c = ends-well _ _ _ (c .before .before .before .before .before .pre) (c .before .before .before .if1 .left)
 
 pub finish-spec : {M : Type 1} → statement M
-finish-spec = tie.close (tie.spec empty-job-requires returns returns-2)
+finish-spec = tie.close (tie.spec refusal-requires returns returns-2)

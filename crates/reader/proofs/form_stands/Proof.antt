@@ -1,6 +1,6 @@
 -- `reader::form_stands` meets its contract: one case for each form. Assumes nothing.
 use mathlib.Core.Path.{sym, ap}
-use Rattle.reader.specs.LinesTaken.{mayStand}
+use Rattle.reader.specs.LinesAbove.{mayStand}
 use borrow.Author.Needs.{needs}
 use Rattle.reader.proofs.form_stands.Statement.{statement}
 use Rattle.reader.proofs.form_stands.Tie as tie

@@ -17,7 +17,7 @@ use Rattle.board.specs.Stored.{jobOf, storedOf, noNet, noBlock}
 use Rattle.jobfile.specs.Read.{lastNumber, pinsFree, withNet, withBlock}
 use Rattle.jobfile.proofs.Tests.{last-number}
 use Rattle.jobfile.proofs.StoredJobs.{stored-net, stored-block}
-use Rattle.jobrules.specs.Rules.{Filled}
+use Rattle.reader.specs.LinesAbove.{Filled}
 
 module _ (job : StoredJob) (f : Filled job) where
   -- the used slots are as many as counted
@@ -111,41 +111,3 @@ module _ (job : StoredJob) (f : Filled job) where
         blocks = set (s .blocks) (s .nblocks) b;
       })
       (f .stored))
-
--- the number of the last net
-
-pub no-last : (ns : List Net) (k : ℕ) → k ≡ 0 → 0 ≡ lastNumber 0 (take k ns)
-unfolding lastNumber
-no-last ns k e = rw e
-
-pub last-of : (ns : List Net) (k : ℕ) (d : Net) → (k ≡ 0 → ⊥) → k ≤ length ns → getD ns (k - 1) d .number ≡ lastNumber 0 (take k ns)
-last-of ns k d h l =
-    let e : k ≡ suc (k - 1) = omega arith in
-    let g : k - 1 < length ns = omega arith in
-    sym (ap (λ (i : ℕ). lastNumber 0 (take i ns)) e ∙ (rw (take-suc ns (k - 1) d g) (last-number 0 (take (k - 1) ns) (getD ns (k - 1) d))))
-
--- a walk through the nets for one with a row of n
-
-module _ (n : Net) (ns : List Net) (k i : ℕ) (d : Net) (h : i < k) (l : k ≤ length ns) where
-  pub left-used : getD ns i d .left .0 ≡ n .left .0 → allOf (pinsFree n) (slice i k ns) ≡ false
-  unfolding allOf pinsFree
-  left-used e = rw (slice-cons i k ns d h l, eq-eqb (getD ns i d .left .0) (n .left .0) e)
-
-  pub right-used : getD ns i d .right .0 ≡ n .right .0 → allOf (pinsFree n) (slice i k ns) ≡ false
-  unfolding allOf pinsFree
-  right-used e = rw (slice-cons i k ns d h l, eq-eqb (getD ns i d .right .0) (n .right .0) e, and-false)
-
-  pub both-free : (getD ns i d .left .0 ≡ n .left .0 → ⊥) → (getD ns i d .right .0 ≡ n .right .0 → ⊥) →
-      allOf (pinsFree n) (slice i k ns) ≡ allOf (pinsFree n) (slice (i + 1) k ns)
-  unfolding allOf pinsFree
-  both-free e g =
-      rw (
-        slice-cons i k ns d h l,
-        ne-eqb (getD ns i d .left .0) (n .left .0) e,
-        ne-eqb (getD ns i d .right .0) (n .right .0) g,
-        add-one i,
-      )
-
-pub all-free : (n : Net) (ns : List Net) (k i : ℕ) → k ≤ i → allOf (pinsFree n) (slice i k ns) ≡ true
-unfolding allOf
-all-free n ns k i h = rw (drop-of-length-le (take k ns) {i = i} (omega (arith, length-take k ns)))

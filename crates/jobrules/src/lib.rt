@@ -175,13 +175,14 @@ pub fn net_outcome(
     requires { ⌜ BoardInRange size ⌝ }
     ensures { λ r. ⌜ ((job : Job) → NetsAbove job size count last used → r ≡ outcomeOf (addNet line net job)) ⌝ }
 {
+    let number = net.number;
     if !is_net_in_range(size, net) {
         return Outcome::OutOfRange(line);
     }
     if 512 <= count {
         return Outcome::TooMany(line);
     }
-    if net.number <= last {
+    if number <= last {
         return Outcome::NumberNotAbove(line);
     }
     if !are_pins_free(used, net) {

@@ -1,4 +1,2 @@
--- Check: its answers, and what its code holds.
+-- Check: its answers.
 pub mod Answers
-pub mod LayoutSteps
-pub mod Found

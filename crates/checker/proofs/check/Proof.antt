@@ -37,7 +37,10 @@ preceding-requires c κs =
 
 judge-lines-requires : tie.Need-judge-lines-requires
 judge-lines-requires c κs =
-    (stored-at (c .before .before .before .before), (c .before .before .before .numbers-of .ensures, (c .before .before .preceding .ensures, omega (arith, c .before .before .before .before .before .if2 .left))))
+    let t = c .before .before .before .before in (
+      record { accepted = stored-at t; numbers-are = c .before .before .before .numbers-of .ensures; before-are = c .before .before .preceding .ensures },
+      omega (arith, t .before .if2 .left),
+    )
 
 returns-3 : tie.Need-returns-3
 returns-3 c =

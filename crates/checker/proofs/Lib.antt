@@ -1,3 +1,4 @@
 -- The laws of check.
 pub mod Passing
 pub mod Answering
+pub mod CheckRight

@@ -17,6 +17,7 @@ ghost use Rattle.drc.specs.Pass.{PassState, passEnd};
 ghost use Rattle.judging.specs.Judged.{KeepsState};
 ghost use Rattle.layoutsteps.specs.Found.{NetTables};
 ghost use Rattle.checker.specs.Answers.{checkValues, verdictAnswer, checkAnswer};
+ghost use Rattle.checker.specs.RightVerdict.{RightVerdict};
 
 // The answer of check.
 pub enum CheckAnswer {
@@ -119,6 +120,7 @@ fn judge_lines<'a>(
 // Checks a layout text for a job: the job first, then the length of the text, then its lines.
 pub fn check(job: &[u8], layout: &[u8]) -> CheckAnswer
     ensures { λ r. ⌜ r ≡ checkAnswer (readJob (now (job .entry))) (now (layout .entry)) ⌝ }
+    ensures { λ r. ⌜ RightVerdict (now (job .entry)) (now (layout .entry)) r ⌝ }
 {
     let answer = reader::read(job);
     let outcome = answer.outcome;

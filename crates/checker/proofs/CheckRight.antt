@@ -95,14 +95,17 @@ module _ (job layout : List ℕ) where
 
   -- ---- the answer of the definitions holds
 
-  verdict-holds : Faultless job → length layout ≤ 64000 → (v : Verdict) → judge (jobHeld job) layout ≡ v → Holds (verdictAnswer v)
-  unfolding verdictAnswer
-  verdict-holds f n sound-text e = (f, judge-sound (jobHeld job) (held-accepted f) layout e)
-  verdict-holds f n (broken-at l) e = (
+  broken-holds : Faultless job → length layout ≤ 64000 → (l : ℕ) → judge (jobHeld job) layout ≡ broken-at l → Holds (Broken l)
+  broken-holds f n l e = (
     f,
     n,
     record { breach = judge-breach (jobHeld job) (held-accepted f) layout l e; first = λ m b. judge-first (jobHeld job) (held-accepted f) layout l m e b },
   )
+
+  verdict-holds : Faultless job → length layout ≤ 64000 → (v : Verdict) → judge (jobHeld job) layout ≡ v → Holds (verdictAnswer v)
+  unfolding verdictAnswer
+  verdict-holds f n sound-text e = (f, judge-sound (jobHeld job) (held-accepted f) layout e)
+  verdict-holds f n (broken-at l) e = broken-holds f n l e
 
   accepted-holds : Faultless job → Holds (checkAnswer (accepted (jobHeld job)) layout)
   unfolding checkAnswer

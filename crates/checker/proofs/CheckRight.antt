@@ -18,7 +18,7 @@ use Rattle.jobfile.proofs.Refusals.{read-refused, read-faultless, read-held, fi
 use Rattle.sound.specs.Sound.{Sound}
 use Rattle.sound.proofs.Bounds.{sound-length}
 use Rattle.drc.specs.Judge.{Verdict, sound-text, broken-at, judge}
-use Rattle.drc.proofs.First.{judge-breach, judge-first}
+use Rattle.drc.proofs.FirstBroken.{judge-breach, judge-first}
 use Rattle.drc.proofs.JudgeSound.{judge-sound, sound-unbroken}
 use Rattle.checker.specs.declared.CheckAnswer.{CheckAnswer}
 use Rattle.checker.specs.declared.CheckAnswer.the-variants.{Refused, LayoutTooLong, Passes, Broken}

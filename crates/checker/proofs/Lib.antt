@@ -1,4 +1,4 @@
 -- The laws of check.
-pub mod Passing
+pub mod LayoutLeft
 pub mod Answering
 pub mod CheckRight

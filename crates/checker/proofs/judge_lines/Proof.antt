@@ -13,7 +13,7 @@ use Rattle.drc.specs.Pass.{passStep}
 use Rattle.layoutsteps.specs.declared.LayoutStep.the-variants as At
 use Rattle.layoutsteps.specs.LayoutSteps.{layoutStep, lineRead, formNumber}
 use Rattle.layoutsteps.proofs.NetsFound.{FoundAt, nets-counted, found-at}
-use Rattle.checker.proofs.Passing.{LayoutLeft, left-start, left-moved, left-line, left-broken, left-more, left-over, answer-broken, answer-end}
+use Rattle.checker.proofs.LayoutLeft.{LayoutLeft, left-start, left-moved, left-line, left-broken, left-more, left-over, answer-broken, answer-end}
 use Rattle.checker.proofs.judge_lines.Statement.{statement}
 use Rattle.checker.proofs.judge_lines.Tie as tie
 

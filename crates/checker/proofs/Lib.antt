@@ -1,7 +1,4 @@
 -- The laws of check.
-pub mod LayoutLines
-pub mod LineForms
-pub mod WireLines
-pub mod NetsFound
-pub mod Passing
+pub mod LayoutLeft
 pub mod Answering
+pub mod CheckRight

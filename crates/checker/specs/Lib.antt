@@ -1,4 +1,3 @@
--- Check: its answers, and what its code holds.
+-- Check: its answers, and what an answer is to be.
 pub mod Answers
-pub mod LayoutSteps
-pub mod Found
+pub mod RightVerdict

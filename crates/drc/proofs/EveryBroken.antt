@@ -16,7 +16,7 @@ use Rattle.drc.specs.Judge.{isInPlace, keepsRules}
 use Rattle.drc.specs.BrokenLines.{brokenEnd, brokenFrom, brokenLines}
 use Rattle.drc.proofs.InPlace.{can-stand-of, in-place-of, not-in-place}
 use Rattle.drc.proofs.LineRules.{fails-line, passes-line}
-use Rattle.drc.proofs.First.{before-not-behind, in-not-behind}
+use Rattle.drc.proofs.FirstBroken.{before-not-behind, in-not-behind}
 
 one-line : {l n : ℕ} → List·Memᴰ l (n ∷ []) → l ≡ n
 one-line m = ⊎-elim (λ e. e) (λ r. absurd (List·Memᴰ·not-nil r)) (List·Memᴰ·cases-cons m)

@@ -11,10 +11,10 @@ use Rattle.layout.specs.Tree.{Wire, Line, opens, track, wire, loose, closes}
 use Rattle.drc.specs.Standing.{Above, beforeLayout, inLayout, behindLayout, CanStand, opening-first, track-in-turn, wire-under-track, loose-behind-tracks, closing-behind-tracks}
 use Rattle.drc.specs.Judge.{noneLoose, endsTrack, isInTurn, isOpening, isInPlace}
 
-pub nil-of : (ns : List ℕ) → noneLoose ns ≡ true → ns ≡ []
+pub no-loose-lines : (ns : List ℕ) → noneLoose ns ≡ true → ns ≡ []
 unfolding noneLoose
-nil-of [] h = refl
-nil-of (k ∷ ns) h = absurd (false≢true h)
+no-loose-lines [] h = refl
+no-loose-lines (k ∷ ns) h = absurd (false≢true h)
 
 module _ (job : Job) where
   pub can-stand-of : (a : Above) (x : Line) → isInPlace job a x ≡ true → CanStand job a x
@@ -63,7 +63,7 @@ module _ (job : Job) where
   under-track t earlier ws ns w h =
       let a = and-split (noneLoose ns && leb 1 t) (leb t (job .board .tracks)) h in
       let b = and-split (noneLoose ns) (leb 1 t) (a .0) in
-      record { from-track = leb-true 1 t (b .1); to-track = leb-true t (job .board .tracks) (a .1); none-loose = nil-of ns (b .0) }
+      record { from-track = leb-true 1 t (b .1); to-track = leb-true t (job .board .tracks) (a .1); none-loose = no-loose-lines ns (b .0) }
 
   -- a track line is the next in turn, with no loose line above it
   pub record NextTrack (t u : ℕ) (ns : List ℕ) : Type 0 where
@@ -76,4 +76,4 @@ module _ (job : Job) where
   next-in-turn t earlier ws ns u s h =
       let a = and-split (noneLoose ns) (eqb u (suc t) && leb u (job .board .tracks)) h in
       let b = and-split (eqb u (suc t)) (leb u (job .board .tracks)) (a .1) in
-      record { in-turn = eqb-true u (suc t) (b .0); to-track = leb-true u (job .board .tracks) (b .1); none-loose = nil-of ns (a .0) }
+      record { in-turn = eqb-true u (suc t) (b .0); to-track = leb-true u (job .board .tracks) (b .1); none-loose = no-loose-lines ns (a .0) }

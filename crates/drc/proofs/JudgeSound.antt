@@ -15,11 +15,11 @@ use Rattle.drc.specs.Standing.{linesRead}
 use Rattle.drc.specs.Breach.{Breach}
 use Rattle.drc.specs.Judge.{Verdict, sound-text, broken-at, judge}
 use Rattle.drc.proofs.Lines.{ofForm, lines-of-text}
-use Rattle.drc.proofs.First.{not-sound, judge-breach, judge-no-breach}
-use Rattle.drc.proofs.Kept.{tree-sound}
-use Rattle.drc.proofs.KeptTree.{sound-tree}
-use Rattle.drc.proofs.KeptSound.{kept-tree-sound}
-use Rattle.drc.proofs.SoundKept.{tracks-kept, looses-kept}
+use Rattle.drc.proofs.FirstBroken.{not-sound, judge-breach, judge-no-breach}
+use Rattle.drc.proofs.RulesByLine.{tree-sound}
+use Rattle.drc.proofs.JudgedTree.{sound-tree}
+use Rattle.drc.proofs.RulesToSound.{kept-tree-sound}
+use Rattle.drc.proofs.SoundToRules.{tracks-kept, looses-kept}
 
 by-verdict : {P : Type 0} (v : Verdict) → (v ≡ sound-text → P) → ((l : ℕ) → v ≡ broken-at l → P) → P
 by-verdict sound-text f g = f refl

@@ -14,7 +14,7 @@ use Rattle.lists.proofs.Joins.{allOf-false}
 use Rattle.board.specs.Job.{Job}
 use Rattle.drc.specs.Breach.{LooseBreach, other-net, loose-again, loose-order}
 use Rattle.drc.specs.Judge.{isUnlined, isSoundLoose}
-use Rattle.drc.proofs.Failing.{and-fails, unlisted, not-found}
+use Rattle.drc.proofs.FailedTests.{and-fails, unlisted, not-found}
 
 module _ (job : Job) (wired ns : List ℕ) (k : ℕ) where
   abbrev jobNumbers : List ℕ

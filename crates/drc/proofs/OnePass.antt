@@ -19,8 +19,8 @@ use Rattle.drc.specs.Standing.{linesRead, Above, beforeLayout, inLayout,
 use Rattle.drc.specs.Covers.{drawnBy}
 use Rattle.drc.specs.Judge.{noneLoose, endsTrack, isInTurn, isOpening, isInPlace, isTrueSum, isSoundWire, isUnlined, isSoundLoose, keepsRules, Verdict, broken-at, atTextEnd, judgeFrom, judge}
 use Rattle.drc.specs.Pass.{Summary, emptySummary, addTrack, isNextWire, faultAfter, addWire, addLoose, PassState, unbegun, running, finished, PassStep, passes-on, decides, closedAt, unlessFault, judgedTrack, orBroken, passInTurn, passLine, passIllFormed, passStep, passEnd, afterStep, passFrom, passOver}
-use Rattle.drc.proofs.InPlace.{nil-of}
-use Rattle.drc.proofs.KeptTree.{some-loose}
+use Rattle.drc.proofs.InPlace.{no-loose-lines}
+use Rattle.drc.proofs.JudgedTree.{some-loose}
 use Rattle.drc.proofs.Summaries.{SummaryFits, fits-empty, wired-is, fits-track, next-loose, fits-loose, next-wire, fits-wire}
 
 -- ---- the wires of a track end
@@ -174,7 +174,7 @@ module _ (job : Job) where
       next-clean (noneLoose ns && endsTrack job (m .track) (track u s)) (eqb (m .sum) (m .printed)) (isTrueSum job u s 0 ls) _ _ (broken-at n) (broken-at (m .line)) h
       (λ c.
       let d = and-split (noneLoose ns) (endsTrack job (m .track) (track u s)) c in
-      let e = nil-of ns (d .0) in
+      let e = no-loose-lines ns (d .0) in
       rw e (under-next u s ls g n ws m (rw e at f) (d .1))))
 
   -- the closing line

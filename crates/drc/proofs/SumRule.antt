@@ -13,7 +13,7 @@ use Rattle.sound.specs.Wires.{worthOf, sumOver, wireNumbers, wiresSum}
 use Rattle.drc.specs.Standing.{inLayout, CanStand}
 use Rattle.drc.specs.Breach.{NoWire, next-track, first-loose, last-line, FalseSum}
 use Rattle.drc.specs.Judge.{noneLoose, endsTrack, isInTurn, isInPlace, isTrueSum}
-use Rattle.drc.proofs.Failing.{or-fails}
+use Rattle.drc.proofs.FailedTests.{or-fails}
 use Rattle.drc.proofs.InPlace.{can-stand-of, in-place-of}
 
 module _ (job : Job) (u s : ℕ) where
@@ -68,8 +68,8 @@ module _ (job : Job) (u s : ℕ) where
         differs = λ (e : sum + (worthOf job (w .number) + sumOver (worthOf job) (wireNumbers (r .wires))) ≡ s). r .differs (omega arith);
       }
 
-  pub false-of : (earlier : List ℕ) (ls : List (Option Line)) → isTrueSum job u s 0 ls ≡ false → FalseSum job earlier u s ls
-  false-of earlier ls f =
+  pub fails-sum : (earlier : List ℕ) (ls : List (Option Line)) → isTrueSum job u s 0 ls ≡ false → FalseSum job earlier u s ls
+  fails-sum earlier ls f =
       let r = sum-fails 0 ls f in
       record {
         wires = r .wires;
@@ -87,15 +87,15 @@ module _ (job : Job) (u s : ℕ) where
   ended-fails sum (loose k) ls first-loose c d = rw (c, ne-eqb sum s d)
   ended-fails sum closes ls last-line c d = rw (c, ne-eqb sum s d)
 
-  fails-sum : (sum : ℕ) (ws : List Wire) (x : Line) (ls : List (Option Line)) → NoWire x → endsTrack job u x ≡ true → (sum + wiresSum job ws ≡ s → ⊥) →
+  differing-fails : (sum : ℕ) (ws : List Wire) (x : Line) (ls : List (Option Line)) → NoWire x → endsTrack job u x ≡ true → (sum + wiresSum job ws ≡ s → ⊥) →
       isTrueSum job u s sum (map (λ v. some (wire v)) ws ++ some x ∷ ls) ≡ false
   unfolding isTrueSum wiresSum sumOver
-  fails-sum sum [] x ls n c d = ended-fails sum x ls n c (λ (e : sum ≡ s). d (omega arith))
-  fails-sum sum (w ∷ ws) x ls n c d =
-      fails-sum (sum + worthOf job (w .number)) ws x ls n c (λ (e : sum + worthOf job (w .number) + sumOver (worthOf job) (wireNumbers ws) ≡ s). d (omega arith))
+  differing-fails sum [] x ls n c d = ended-fails sum x ls n c (λ (e : sum ≡ s). d (omega arith))
+  differing-fails sum (w ∷ ws) x ls n c d =
+      differing-fails (sum + worthOf job (w .number)) ws x ls n c (λ (e : sum + worthOf job (w .number) + sumOver (worthOf job) (wireNumbers ws) ≡ s). d (omega arith))
 
-  pub of-false : (earlier : List ℕ) (ls : List (Option Line)) → FalseSum job earlier u s ls → isTrueSum job u s 0 ls ≡ false
-  of-false earlier ls r =
-      rw (r .lines-below) (fails-sum 0 (r .wires) (r .next) (r .rest) (r .no-wire)
+  pub false-sum-fails : (earlier : List ℕ) (ls : List (Option Line)) → FalseSum job earlier u s ls → isTrueSum job u s 0 ls ≡ false
+  false-sum-fails earlier ls r =
+      rw (r .lines-below) (differing-fails 0 (r .wires) (r .next) (r .rest) (r .no-wire)
       (rw (ends-of (r .next) (r .no-wire) earlier (r .wires)) (in-place-of job (r .can-stand)))
       (λ (e : 0 + wiresSum job (r .wires) ≡ s). r .differs (omega arith)))

@@ -21,7 +21,7 @@ use Rattle.drc.specs.Covers.{drawnBy, coversOf}
 use Rattle.drc.specs.Judge.{noneLoose, isBelow, isSoundPlace, isSoundWire, isUnlined, isSoundLoose}
 use Rattle.drc.specs.Pass.{Summary, emptySummary, addTrack, isNextWire, lowestOf, faultAfter, addWire, addLoose}
 use Rattle.drc.proofs.Drawings.{drawn-some, covers-of}
-use Rattle.drc.proofs.KeptTree.{some-loose}
+use Rattle.drc.proofs.JudgedTree.{some-loose}
 
 -- the higher of two bounds decides
 higher-bound : (a b x : ℕ) → a < b → (ltb a x && (ltb b x && true)) ≡ ltb b x

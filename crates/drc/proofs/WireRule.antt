@@ -26,7 +26,7 @@ use Rattle.sound.specs.Wires.{wireNumbers}
 use Rattle.drc.specs.Breach.{Draws, WireBreach, not-placed, shared-row, wrong-order, repeated-net, preceding-net}
 use Rattle.drc.specs.Covers.{drawnBy, coversOf}
 use Rattle.drc.specs.Judge.{isBelow, isSoundPlace, isSoundWire}
-use Rattle.drc.proofs.Failing.{and-fails, or-fails, both-ways}
+use Rattle.drc.proofs.FailedTests.{and-fails, or-fails, passes-and-fails}
 use Rattle.drc.proofs.Drawings.{drawn-some, drawn-of, same-track, covers-some, covers-of}
 
 -- the number of a wire is that of the net that it draws
@@ -61,9 +61,9 @@ module _ (job : Job) (t : ℕ) (earlier : List ℕ) (ws : List Wire) where
   abbrev Below : Placement → Bool
   Below p = allOf (λ v. isBelow p (coversOf job v)) ws
 
-  pub kept-of : (w : Wire) → isSoundWire job t earlier ws (drawnBy job t w) ≡ true → WireKept w
+  pub wire-kept : (w : Wire) → isSoundWire job t earlier ws (drawnBy job t w) ≡ true → WireKept w
   unfolding isSoundWire isSoundPlace isBelow
-  kept-of w h =
+  wire-kept w h =
       by-option (drawnBy job t w)
       (λ e. absurd (false≢true (rw e at h)))
       (λ p e.
@@ -83,9 +83,9 @@ module _ (job : Job) (t : ℕ) (earlier : List ℕ) (ws : List Wire) where
         under = λ v q i d. ltb-true (bottom q) (p .top) (rw d at (allOf-at (λ u. isBelow p (coversOf job u)) ws v (a .1) i));
       })
 
-  pub of-kept : (w : Wire) → WireKept w → isSoundWire job t earlier ws (drawnBy job t w) ≡ true
+  pub kept-wire : (w : Wire) → WireKept w → isSoundWire job t earlier ws (drawnBy job t w) ≡ true
   unfolding isSoundWire isSoundPlace isBelow
-  of-kept w k =
+  kept-wire w k =
       let p = k .place in
       rw (k .found)
       (and-both _ _ (and-both _ _ (and-both _ _ (and-both _ _ (and-both _ _
@@ -109,7 +109,7 @@ module _ (job : Job) (t : ℕ) (earlier : List ℕ) (ws : List Wire) where
     -- a test that each legal and clear placement passes
     fails-placed : (f : Placement → Bool) → ((q : Placement) → Legal (job .board) q → Clear job t q → f q ≡ true) →
         (p : Placement) → drawnBy job t w ≡ some p → f p ≡ false → Broken
-    fails-placed f g p e h = not-placed (λ q i l c d. both-ways (f p) (ap f (other p q e i l d) ∙ g q l c) h)
+    fails-placed f g p e h = not-placed (λ q i l c d. passes-and-fails (f p) (ap f (other p q e i l d) ∙ g q l c) h)
 
     fails-length : (p : Placement) → drawnBy job t w ≡ some p → Lengths p ≡ false → Broken
     fails-length =
@@ -131,7 +131,7 @@ module _ (job : Job) (t : ℕ) (earlier : List ℕ) (ws : List Wire) where
         let o = or-fails (not (isBefore (m .0) (p .net))) (isOn earlier (m .0)) (m .2) in
         preceding-net {m = m .0} {n = p .net} (m .1) (d .of-job) (number-drawn d)
         (precedes-exact (m .0) (p .net) .0 (not-false (isBefore (m .0) (p .net)) (o .0)))
-        (λ i. both-ways (isOn earlier (m .0)) (on-listed earlier (m .0) i) (o .1))
+        (λ i. passes-and-fails (isOn earlier (m .0)) (on-listed earlier (m .0) i) (o .1))
 
     fails-below : (p : Placement) → Draws job t w p → (v : Wire) → List·Memᴰ v ws → isBelow p (coversOf job v) ≡ false → Broken
     unfolding isBelow

@@ -9,7 +9,7 @@ use Rattle.routing.proofs.RouteSound.{route-sound}
 use Rattle.drc.specs.Breach.{Breach}
 use Rattle.drc.specs.Judge.{sound-text, judge}
 use Rattle.drc.specs.Pass.{passOver}
-use Rattle.drc.proofs.First.{judge-no-breach}
+use Rattle.drc.proofs.FirstBroken.{judge-no-breach}
 use Rattle.drc.proofs.JudgeSound.{sound-judge}
 use Rattle.drc.proofs.OnePass.{one-pass}
 

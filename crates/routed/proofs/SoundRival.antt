@@ -15,7 +15,7 @@ use Rattle.sound.specs.Sound.{SoundTrack, SoundTracks, Sound}
 use Rattle.routing.specs.DrawnTracks.{noTrack}
 use Rattle.routing.specs.Promises.{UnbeatenText}
 use Rattle.sound.proofs.Sums.{Distinct}
-use Rattle.drc.proofs.SoundKept.{fresh-of}
+use Rattle.drc.proofs.SoundToRules.{fresh-of}
 
 module _ (job : Job) (rise : EachPair (λ a b. a .number < b .number) (job .nets)) where
   track-rival : (earlier : List ℕ) (t : ℕ) (tr : DrawnTrack) (rest : List ℕ) → SoundTrack job earlier t tr → Distinct (earlier ++ (wireNumbers (tr .wires) ++ rest)) →

@@ -3,6 +3,7 @@ use native.Mathlib.Omega.{arith}
 use Rattle.board.specs.Stored.{AcceptedStored}
 use Rattle.jobfile.proofs.Returned.{given-stored, given-read, given-refused}
 use Rattle.checker.proofs.Answering.{answer-refused, answer-long, answer-judged}
+use Rattle.checker.proofs.CheckRight.{right-verdict}
 use borrow.Author.Needs.{needs}
 use Rattle.checker.proofs.check.Statement.{statement}
 use Rattle.checker.proofs.check.Tie as tie
@@ -21,11 +22,11 @@ number-of-requires c κs = search needs
 
 returns : tie.Need-returns
 returns c =
-    answer-refused _ _ _ (given-refused _ _ _ (c .before .before .read .ensures .0) (c .before .number-of .ensures) (c .if1 .taken))
+    right-verdict _ _ _ (answer-refused _ _ _ (given-refused _ _ _ (c .before .before .read .ensures .0) (c .before .number-of .ensures) (c .if1 .taken)))
 
 returns-2 : tie.Need-returns-2
 returns-2 c =
-    answer-long _ _ _ (given-read _ _ _ (c .before .before .before .read .ensures .0) (c .before .before .number-of .ensures) (c .before .if1 .left)) (omega (arith, c .if2 .taken))
+    right-verdict _ _ _ (answer-long _ _ _ (given-read _ _ _ (c .before .before .before .read .ensures .0) (c .before .before .number-of .ensures) (c .before .if1 .left)) (omega (arith, c .if2 .taken)))
 
 numbers-of-requires : tie.Need-numbers-of-requires
 numbers-of-requires c κs =
@@ -37,11 +38,14 @@ preceding-requires c κs =
 
 judge-lines-requires : tie.Need-judge-lines-requires
 judge-lines-requires c κs =
-    (stored-at (c .before .before .before .before), (c .before .before .before .numbers-of .ensures, (c .before .before .preceding .ensures, omega (arith, c .before .before .before .before .before .if2 .left))))
+    let t = c .before .before .before .before in (
+      record { accepted = stored-at t; numbers-are = c .before .before .before .numbers-of .ensures; before-are = c .before .before .preceding .ensures },
+      omega (arith, t .before .if2 .left),
+    )
 
 returns-3 : tie.Need-returns-3
 returns-3 c =
-    answer-judged _ _ _ _ (given-read _ _ _ (c .before .before .before .before .before .before .before .before .before .read .ensures .0) (c .before .before .before .before .before .before .before .before .number-of .ensures) (c .before .before .before .before .before .before .before .if1 .left)) (omega (arith, c .before .before .before .before .before .before .if2 .left)) (c .judge-lines .ensures)
+    right-verdict _ _ _ (answer-judged _ _ _ _ (given-read _ _ _ (c .before .before .before .before .before .before .before .before .before .read .ensures .0) (c .before .before .before .before .before .before .before .before .number-of .ensures) (c .before .before .before .before .before .before .before .if1 .left)) (omega (arith, c .before .before .before .before .before .before .if2 .left)) (c .judge-lines .ensures))
 
 pub check-spec : {M : Type 1} → statement M
 check-spec =

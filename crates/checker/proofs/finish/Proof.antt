@@ -3,7 +3,7 @@ use mathlib.Core.Path.{_≡_, ap, _∙_}
 use native.Mathlib.Omega.{arith}
 use Rattle.judging.specs.declared.LinesJudged.{LinesJudged}
 use Rattle.checker.specs.declared.CheckAnswer.the-variants as Is
-use Rattle.checker.proofs.Passing.{ends-sound, ends-early}
+use Rattle.checker.proofs.LayoutLeft.{ends-sound, ends-early}
 use borrow.Author.Needs.{needs}
 use Rattle.checker.proofs.finish.Statement.{statement}
 use Rattle.checker.proofs.finish.Tie as tie

@@ -38,7 +38,7 @@ returns c =
     let l = w .before .before in
     let b = l .before in
     let n = b .before in (
-      written-as (check-line-is _ _ _ _ (n .check-number .ensures) (b .is-broken .ensures) (l .check-line .ensures) _ (n .before .check .ensures)) (w .put-verdict .ensures),
+      written-as (check-line-is _ _ _ _ (n .check-number .ensures) (b .is-broken .ensures) (l .check-line .ensures) _ (n .before .check .ensures .0)) (w .put-verdict .ensures),
       line-within (w .put-verdict .ensures) (omega (arith, fits (w .before))),
     )
 

@@ -20,10 +20,10 @@ use Rattle.drc.specs.Standing.{Above, beforeLayout, inLayout, behindLayo
 use Rattle.drc.specs.Judge.{noneLoose, endsTrack, isInTurn, isOpening, isInPlace, isTrueSum, keepsRules, sound-text, atTextEnd, judgeFrom}
 use Rattle.drc.proofs.Lines.{ofForm}
 use Rattle.drc.proofs.InPlace.{UnderTrack, under-track, NextTrack, next-in-turn}
-use Rattle.drc.proofs.WireRule.{WireKept, kept-of}
+use Rattle.drc.proofs.WireRule.{WireKept, wire-kept}
 use Rattle.drc.proofs.LooseRule.{LooseKept, loose-kept}
-use Rattle.drc.proofs.First.{not-sound}
-use Rattle.drc.proofs.Kept.{endLines, KeptWires, KeptTracks, KeptLoose, NoneMissing, tracks-count}
+use Rattle.drc.proofs.FirstBroken.{not-sound}
+use Rattle.drc.proofs.RulesByLine.{endLines, KeptWires, KeptTracks, KeptLoose, NoneMissing, tracks-count}
 
 pub some-loose : (ns : List ℕ) (j : ℕ) → noneLoose (ns ++ (j ∷ [])) ≡ false
 unfolding noneLoose
@@ -172,7 +172,7 @@ module _ (job : Job) where
   wire-case n t earlier ws ns w ls h f =
       let x = passed n (inLayout t earlier ws ns) (wire w) ls h in
       let c = under-track job t earlier ws ns w (x .in-place) in
-      rw (c .none-loose) (wire-above t earlier ws w ls (c .from-track) (kept-of job t earlier ws w (x .kept)) (rw (c .none-loose) at (f (x .rest))))
+      rw (c .none-loose) (wire-above t earlier ws w ls (c .from-track) (wire-kept job t earlier ws w (x .kept)) (rw (c .none-loose) at (f (x .rest))))
 
   loose-case : (n t : ℕ) (earlier : List ℕ) (ws : List Wire) (ns : List ℕ) (j : ℕ) (ls : List (Option Line)) → SoundFrom n t earlier ws ns (some (loose j) ∷ ls) →
       (SoundFrom (suc n) t earlier ws (ns ++ (j ∷ [])) ls → Remaining t earlier ws (ns ++ (j ∷ [])) ls) → Remaining t earlier ws ns (some (loose j) ∷ ls)

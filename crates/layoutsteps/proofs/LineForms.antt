@@ -15,8 +15,8 @@ use Rattle.layout.specs.ReadBack.{readLine}
 use Rattle.layoutforms.specs.LayoutForms.{layoutFormOf}
 use Rattle.layoutforms.specs.declared.LayoutForm.{LayoutForm}
 use Rattle.layoutforms.specs.declared.LayoutForm.the-variants as Is
-use Rattle.checker.specs.declared.LayoutStep.the-variants as At
-use Rattle.checker.specs.LayoutSteps.{lineRead, layoutOn}
+use Rattle.layoutsteps.specs.declared.LayoutStep.the-variants as At
+use Rattle.layoutsteps.specs.LayoutSteps.{lineRead, layoutOn}
 
 module _ (s : List ℕ) (from to : ℕ) (next : Place) where
   -- no byte 10 ends the line

@@ -15,8 +15,8 @@ use Rattle.layout.specs.ReadBack.{readLine}
 use Rattle.layoutforms.specs.LayoutForms.{layoutFormOf}
 use Rattle.layoutforms.specs.declared.LayoutForm.{LayoutForm}
 use Rattle.layoutforms.specs.declared.LayoutForm.the-variants as Is
-use Rattle.checker.specs.declared.LayoutStep.{LayoutStep}
-use Rattle.checker.specs.declared.LayoutStep.the-variants as At
+use Rattle.layoutsteps.specs.declared.LayoutStep.{LayoutStep}
+use Rattle.layoutsteps.specs.declared.LayoutStep.the-variants as At
 
 -- the line from byte `from` to before byte `to`, as it is read; not of the form where the next line begins at `to`, since no byte 10
 -- ends it

@@ -1,15 +1,15 @@
--- `checker::read_line` meets its contract. Assumes nothing.
+-- `layoutsteps::read_line` meets its contract. Assumes nothing.
 use mathlib.Core.Path.{_≡_, sym, ap, _∙_}
 use native.Mathlib.Omega.{arith}
 use Rattle.lines.specs.declared.Step.the-variants.{Line}
 use Rattle.lines.proofs.Steps.{stepped}
 use Rattle.layoutforms.specs.declared.LayoutForm.the-variants as Is
-use Rattle.checker.specs.declared.LayoutStep.the-variants as At
-use Rattle.checker.specs.LayoutSteps.{layoutOn, layoutStep}
-use Rattle.checker.proofs.LineForms.{step-open, step-ended}
+use Rattle.layoutsteps.specs.declared.LayoutStep.the-variants as At
+use Rattle.layoutsteps.specs.LayoutSteps.{layoutOn, layoutStep}
+use Rattle.layoutsteps.proofs.LineForms.{step-open, step-ended}
 use borrow.Author.Needs.{needs}
-use Rattle.checker.proofs.read_line.Statement.{statement}
-use Rattle.checker.proofs.read_line.Tie as tie
+use Rattle.layoutsteps.proofs.read_line.Statement.{statement}
+use Rattle.layoutsteps.proofs.read_line.Tie as tie
 
 next-line-requires : tie.Need-next-line-requires
 next-line-requires c κs = search needs

@@ -27,8 +27,8 @@ use Rattle.drc.specs.Breach.{Draws}
 use Rattle.drc.specs.Covers.{drawnBy, coversOf}
 use Rattle.drc.proofs.Drawings.{drawn-of, covers-of}
 use Rattle.drc.proofs.WireRule.{WireKept, draws-legal}
-use Rattle.drc.proofs.Kept.{KeptWires, KeptTracks, KeptLoose}
-use Rattle.drc.proofs.KeptSound.{netNumbersOf}
+use Rattle.drc.proofs.RulesByLine.{KeptWires, KeptTracks, KeptLoose}
+use Rattle.drc.proofs.RulesToSound.{netNumbersOf}
 
 -- of two placements with rising tops that share no row, the first ends above the second
 rising-apart : (p q : Placement) → p .top < q .top → Apart p q → bottom p < q .top

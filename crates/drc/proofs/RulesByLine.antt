@@ -22,7 +22,7 @@ use Rattle.drc.specs.Standing.{Above, beforeLayout, inLayout, withLine, 
 use Rattle.drc.specs.Judge.{endsTrack, isInPlace, isTrueSum, keepsRules, sound-text, atTextEnd, judgeFrom}
 use Rattle.drc.proofs.Lines.{ofForm}
 use Rattle.drc.proofs.InPlace.{in-place-of}
-use Rattle.drc.proofs.WireRule.{WireKept, of-kept}
+use Rattle.drc.proofs.WireRule.{WireKept, kept-wire}
 use Rattle.drc.proofs.LooseRule.{LooseKept, kept-loose}
 
 -- the loose lines of a layout, and its last line
@@ -85,7 +85,7 @@ module _ (job : Job) where
   wires-pass t earlier rest o b n ws (v ∷ vs) k f =
       step n (inLayout t earlier ws []) (wire v) (ofForm (wiresThen vs rest))
       (wire-under-track o b)
-      (of-kept job t earlier ws v (k .0))
+      (kept-wire job t earlier ws v (k .0))
       (wires-pass t earlier rest o b (suc n) (ws ++ (v ∷ [])) vs (k .1) (λ m. rw (append-assoc ws (v ∷ []) vs) (f m)))
 
   loose-pass : (n t : ℕ) (earlier : List ℕ) (ws : List Wire) (ns ks : List ℕ) → t ≡ job .board .tracks → KeptLoose (earlier ++ wireNumbers ws) ns ks →

@@ -1,4 +1,4 @@
--- `checker::take_wire` meets its contract. Assumes nothing.
+-- `layoutsteps::take_wire` meets its contract. Assumes nothing.
 use mathlib.Core.Path.{sym, ap, _∙_}
 use native.Mathlib.Omega.{arith}
 use borrow.Author.Tests.{not-true, not-false}
@@ -9,10 +9,10 @@ use Rattle.layout.specs.Tree.{wire}
 use Rattle.drc.specs.Covers.{drawnOf}
 use Rattle.judging.proofs.Turns.{closes-off, wire-place}
 use Rattle.judging.proofs.Steps.{closed-range, wire-range, wire-taken}
-use Rattle.checker.proofs.WireLines.{place-none, drawn-at, unknown-undrawn, unknown-worth, found-number, known-worth, known-drawn, below-512}
+use Rattle.layoutsteps.proofs.WireLines.{place-none, drawn-at, unknown-undrawn, unknown-worth, found-number, known-worth, known-drawn, below-512}
 use borrow.Author.Needs.{needs}
-use Rattle.checker.proofs.take_wire.Statement.{statement}
-use Rattle.checker.proofs.take_wire.Tie as tie
+use Rattle.layoutsteps.proofs.take_wire.Statement.{statement}
+use Rattle.layoutsteps.proofs.take_wire.Tie as tie
 
 is-wire-turn-requires : tie.Need-is-wire-turn-requires
 is-wire-turn-requires c κs = search needs

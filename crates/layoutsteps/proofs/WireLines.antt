@@ -30,7 +30,7 @@ use Rattle.drawnwires.specs.declared.DrawnPlace.the-variants.{Nothing, At}
 use Rattle.drawnwires.specs.DrawnPlaces.{placeOf}
 use Rattle.judging.specs.declared.NetFound.{NetFound}
 use Rattle.judging.proofs.Indexes.{index-number, index-none}
-use Rattle.checker.specs.Found.{IsFound, FoundFor}
+use Rattle.layoutsteps.specs.Found.{IsFound, FoundFor}
 
 -- ---- the placement that is answered
 

@@ -1,4 +1,4 @@
--- `checker::take_line` meets its contract: one case for each form. Assumes nothing.
+-- `layoutsteps::take_line` meets its contract: one case for each form. Assumes nothing.
 use Prim.Native.Nat.{ℕ}
 use mathlib.Core.Path.{sym, ap, subst, _∙_}
 use Rattle.board.specs.declared.Board.{Board}
@@ -6,12 +6,12 @@ use Rattle.layout.specs.Tree.{wire}
 use Rattle.drc.specs.Pass.{passStep}
 use Rattle.judging.proofs.Turns.{closed-stage, closes-ill-formed}
 use Rattle.judging.proofs.Steps.{closed-range}
-use Rattle.checker.specs.LayoutSteps.{formNumber}
-use Rattle.checker.specs.Found.{FoundFor}
+use Rattle.layoutsteps.specs.LayoutSteps.{formNumber}
+use Rattle.layoutsteps.specs.Found.{FoundFor}
 use Rattle.layoutforms.proofs.FormsRead.{opening-read, track-read, wire-read, loose-read, closing-read, other-read}
 use borrow.Author.Needs.{needs}
-use Rattle.checker.proofs.take_line.Statement.{statement}
-use Rattle.checker.proofs.take_line.Tie as tie
+use Rattle.layoutsteps.proofs.take_line.Statement.{statement}
+use Rattle.layoutsteps.proofs.take_line.Tie as tie
 
 enum-told : tie.Need-enum-told
 enum-told c = search needs

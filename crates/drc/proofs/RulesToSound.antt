@@ -19,8 +19,8 @@ use Rattle.drc.specs.Covers.{coversOf}
 use Rattle.drc.proofs.Lines.{text-of-lines}
 use Rattle.drc.proofs.Drawings.{drawn-some, covers-of}
 use Rattle.drc.proofs.WireRule.{WireKept, number-drawn}
-use Rattle.drc.proofs.Kept.{endLines, KeptWires, KeptTracks, KeptLoose, tracks-count}
-use Rattle.drc.proofs.KeptTree.{KeptTree}
+use Rattle.drc.proofs.RulesByLine.{endLines, KeptWires, KeptTracks, KeptLoose, tracks-count}
+use Rattle.drc.proofs.JudgedTree.{KeptTree}
 use Rattle.drc.proofs.NewNumbers.{NewEach, new-join, new-distinct}
 
 -- the numbers of the nets of a job

@@ -20,7 +20,7 @@ use Rattle.layout.specs.ReadBack.{readLine}
 use Rattle.layout.proofs.RoundTrip.{plain}
 use Rattle.drc.specs.Standing.{isEnded, readEach, linesRead}
 use Rattle.drc.proofs.Lines.{line-then, line-open}
-use Rattle.checker.specs.LayoutSteps.{lineRead}
+use Rattle.layoutsteps.specs.LayoutSteps.{lineRead}
 
 -- a text whose first byte 10 is known
 first-ended : (t : List ℕ) → until isEnd t < length t → linesRead t ≡ readLine (take (until isEnd t) t) ∷ linesRead (drop (suc (until isEnd t)) t)

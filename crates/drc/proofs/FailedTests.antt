@@ -18,12 +18,12 @@ or-fails true b h = (h, absurd (true≢false h))
 or-fails false b h = (refl, h)
 
 -- a test does not pass and fail
-pub both-ways : {P : Type 0} (b : Bool) → b ≡ true → b ≡ false → P
-both-ways b p q = absurd (true≢false (sym p ∙ q))
+pub passes-and-fails : {P : Type 0} (b : Bool) → b ≡ true → b ≡ false → P
+passes-and-fails b p q = absurd (true≢false (sym p ∙ q))
 
 -- a number that is not found is not listed
 pub unlisted : (k : ℕ) (ks : List ℕ) → anyOf (eqb k) ks ≡ false → List·Memᴰ k ks → ⊥
-unlisted k ks h i = both-ways (anyOf (eqb k) ks) (mem-anyOf k ks i) h
+unlisted k ks h i = passes-and-fails (anyOf (eqb k) ks) (mem-anyOf k ks i) h
 
 pub not-found : (k : ℕ) (ks : List ℕ) → (List·Memᴰ k ks → ⊥) → anyOf (eqb k) ks ≡ false
 not-found k ks f = by-test (anyOf (eqb k) ks) (λ e. absurd (f (anyOf-mem k ks e))) (λ e. e)

@@ -13,7 +13,8 @@ use Rattle.candidates.proofs.NetBefore.{index-range, net-accepted, before-at, b
 use Rattle.judging.specs.declared.NetFound.{NetFound}
 use Rattle.judging.specs.Values.{isNumbered}
 use Rattle.judging.proofs.Indexes.{index-number}
-use Rattle.checker.specs.Found.{IsFound, FoundFits, FoundFor}
+use Rattle.layoutsteps.specs.declared.NetSlot.{NetSlot}
+use Rattle.layoutsteps.specs.Found.{NetTables, SlotFor, IsFound, FoundFits, FoundFor}
 
 -- what is known of the net found for number k
 pub record FoundAt (s : StoredJob) (k : ℕ) (found : NetFound) : Type 0 where
@@ -35,7 +36,7 @@ module _ (s : StoredJob) (accepted : AcceptedStored s) (size : length (s .nets) 
       ap (λ (i : ℕ). take i numbers) l ∙ ap (λ (ys : List ℕ). take (length xs) ys) e ∙ take-append-seam xs (replicate (512 - length xs) 0)
 
   module _ (k index : ℕ) (is : index ≡ indexFrom (isNumbered k) 0 (jobOf s .nets)) where
-    pub index-within : index ≤ 512
+    index-within : index ≤ 512
     index-within = let c = nets-counted in let r = accepted .nets-room in rw is (index-range (isNumbered k) (jobOf s .nets) 0 (omega arith))
 
     module _ (slot : ℕ) (there : (index ≡ 512 → ⊥) → slot ≡ index) where
@@ -70,23 +71,20 @@ module _ (s : StoredJob) (accepted : AcceptedStored s) (size : length (s .nets) 
         };
       }
 
-  -- found in the arrays of the job's numbers and of the nets that precede
-  pub found-at : (numbers before : List ℕ) → numbers ≡ padded 0 (map (λ n. n .number) (jobOf s .nets)) → before ≡ precedingOf (jobOf s) →
-      (k n index slot : ℕ) (found : NetFound) → n ≡ k →
-      ((ns : List Net) → length ns ≡ s .nnets → take (s .nnets) numbers ≡ map (λ q. q .number) ns → index ≡ indexFrom (isNumbered n) 0 ns) →
-      ((index ≡ 512 → ⊥) → slot ≡ index) →
-      found ≡ record { index = index; net = getD (s .nets) slot noNet; before = getD before slot 0 } → FoundAt s k found
-  found-at numbers before e f k n index slot found same looked there is =
-      let at : index ≡ indexFrom (isNumbered k) 0 (jobOf s .nets) =
-      looked (jobOf s .nets) nets-counted (numbers-back numbers e) ∙ ap (λ (i : ℕ). indexFrom (isNumbered i) 0 (jobOf s .nets)) same in
-      let whole : found ≡ netAt k index at slot there = is ∙ ap (λ (b : List ℕ). record { index = index; net = getD (s .nets) slot noNet; before = getD b slot 0 }) f in
-      rw whole
-      (record {
-        fits = found-fits k index at slot there;
-        of-job = found-for k index at slot there;
-        number-is = found-number k index at slot there;
-      })
-
-  pub place-within : (numbers : List ℕ) → numbers ≡ padded 0 (map (λ n. n .number) (jobOf s .nets)) → (n index : ℕ) →
-      ((ns : List Net) → length ns ≡ s .nnets → take (s .nnets) numbers ≡ map (λ q. q .number) ns → index ≡ indexFrom (isNumbered n) 0 ns) → index ≤ 512
-  place-within numbers e n index looked = index-within n index (looked (jobOf s .nets) nets-counted (numbers-back numbers e))
+-- found in the tables of the job
+pub found-at : (s : StoredJob) (numbers before : List ℕ) → NetTables s numbers before → length (s .nets) ≡ 512 → (k : ℕ) (at : NetSlot) →
+    SlotFor numbers before (s .nnets) k at → (found : NetFound) →
+    found ≡ record { index = at .index; net = getD (s .nets) (at .slot) noNet; before = at .before } → FoundAt s k found
+found-at s numbers before t size k at looked found is =
+    let a = t .accepted in
+    let i : at .index ≡ indexFrom (isNumbered k) 0 (jobOf s .nets) = looked .index-is (jobOf s .nets) (nets-counted s a size) (numbers-back s a size numbers (t .numbers-are)) in
+    let within : at .index ≤ 512 = index-within s a size k (at .index) i in
+    let there : (at .index ≡ 512 → ⊥) → at .slot ≡ at .index = λ d. looked .slot-is (omega arith) in
+    let whole : found ≡ netAt s a size k (at .index) i (at .slot) there =
+    is ∙ ap (λ (b : ℕ). record { index = at .index; net = getD (s .nets) (at .slot) noNet; before = b }) (looked .before-is ∙ ap (λ (bs : List ℕ). getD bs (at .slot) 0) (t .before-are)) in
+    rw whole
+    (record {
+      fits = found-fits s a size k (at .index) i (at .slot) there;
+      of-job = found-for s a size k (at .index) i (at .slot) there;
+      number-is = found-number s a size k (at .index) i (at .slot) there;
+    })

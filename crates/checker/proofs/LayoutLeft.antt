@@ -25,12 +25,12 @@ use Rattle.judging.specs.declared.LinesJudged.{LinesJudged}
 use Rattle.judging.specs.Judged.{KeepsState, KeepsStep, JudgedInRange}
 use Rattle.judging.specs.Values.{notBegun, closedOf, MapIs}
 use Rattle.judging.proofs.Turns.{closes-ill-formed}
-use Rattle.checker.specs.declared.LayoutStep.the-variants as At
+use Rattle.layoutsteps.specs.declared.LayoutStep.the-variants as At
 use Rattle.checker.specs.declared.CheckAnswer.the-variants as Is
-use Rattle.checker.specs.LayoutSteps.{lineRead, layoutOn, layoutStep, LineIs}
+use Rattle.layoutsteps.specs.LayoutSteps.{lineRead, layoutOn, layoutStep, LineIs}
 use Rattle.checker.specs.Answers.{verdictAnswer}
-use Rattle.checker.proofs.LayoutLines.{lines-ahead, none-ahead}
-use Rattle.checker.proofs.LineForms.{read-bytes}
+use Rattle.layoutsteps.proofs.LayoutLines.{lines-ahead, none-ahead}
+use Rattle.layoutsteps.proofs.LineForms.{read-bytes}
 
 -- ---- the line behind a form that was read
 

@@ -1,0 +1,3 @@
+-- The step over a line of a layout text.
+pub mod LayoutSteps
+pub mod Found

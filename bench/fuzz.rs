@@ -142,7 +142,9 @@ fn accepted_job(case: &mut Case, p: &mut Prng, accepted: &job::Job, checks: usiz
     for _ in 0..checks {
         let mutant = mutate::mutate(p.next(), accepted, &layout);
         case.checked("mutant of the second router", &mutant);
-        let (kind, text) = hostile::layout_text(p, &case.job, &layout);
+        // of three such texts one is made from the mutant, so that several rules are broken at once
+        let from = if p.chance(1, 3) { &mutant } else { &layout };
+        let (kind, text) = hostile::layout_text(p, &case.job, from);
         Tally::count(&mut case.tally.kinds, &format!("layout text: {}", kind));
         case.checked(kind, &text);
     }
@@ -180,7 +182,8 @@ fn main() {
         if done % STEP == 0 || done == count {
             let seconds = start.elapsed().as_secs_f64();
             let rate = done as f64 / seconds;
-            println!("{} job texts, {} calls of route, {} of check, 0 differences; {:.0} s, {:.0} job texts a second", done, tally.routes, tally.checks, seconds, rate);
+            print!("{} job texts, {} calls of route, {} of check, 0 differences; ", done, tally.routes, tally.checks);
+            println!("{:.0} s, {:.0} job texts a second", seconds, rate);
         }
     }
     for (name, count) in tally.kinds.iter().chain(&tally.answers) {

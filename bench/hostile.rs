@@ -148,8 +148,8 @@ const JOB_PIECES: [&[u8]; 40] = [
 const LAYOUT_PIECES: [&[u8]; 40] = [
     b"(", b")", b" ", b"\n", b"  ", b"\t", b"\r", b"\0", b"\r\n", b"0", b"9", b"00001", b"000001", b"99999", b"1000000", b"65536", b"4294967296",
     b"18446744073709551617", b"-1", b"+1", b"layout", b"(layout\n", b"layout\0\0", b"Layout", b"track", b" (track 1 0)\n", b" (track 2 0)\n",
-    b" (track 1 9)\n", b"wire", b" (wire 1)\n", b" (wire 1 (0 1) (1 1) (1 2) (3 2))\n", b" (wire 0 (0 0))\n", b"loose", b" (loose 1)\n", b" (loose 2)\n",
-    b")\n", b" )\n", b" (0 1)", b"\xef\xbb\xbf", b"\xff",
+    b" (track 1 9)\n", b"wire", b" (wire 1)\n", b" (wire 1 (0 1) (1 1) (1 2) (3 2))\n", b" (wire 0 (0 0))\n", b"loose", b" (loose 1)\n",
+    b" (loose 2)\n", b")\n", b" )\n", b" (0 1)", b"\xef\xbb\xbf", b"\xff",
 ];
 
 /// One to four damages to a text.

@@ -1,42 +1,18 @@
-//! Routing a job, measured against the second router: same machine, same run, same jobs.
+//! Routing and checking, measured against the second router: same machine, same run, same texts.
 //!
-//! `read` is `hankuribo_read` (the job alone), `plan` is `hankuribo_plan` (the job and its plan), `route` is `hankuribo_route` (from the
-//! job's text to the layout's), `second` is the second router's route. Each time is the median of several samples, and the four are sampled
-//! in turn.
+//! Of ours, `read` is `hankuribo::read` (the job alone), `plan` is `hankuribo::plan` (the job and its plan), `route` is `hankuribo::route`
+//! (from the job's text to the layout's) and `check` is `hankuribo::check` (the job's text and the layout's); `second` is the second router's
+//! route or check. A time is processor time, the median of several samples, and those of a line of a table are sampled in turn.
+//!
+//! Where a table splits the time, `planning` is plan less read, `drawing` is route less plan and `judging` is check less read: the median of
+//! the differences within a turn. So the parts need not add up to the whole, and a part that is small beside what it is taken from comes
+//! out rough, even below 0.
 
-use second_router::{gen, job, route};
+mod growing;
+
+use second_router::{check, gen, job, route};
+use std::cell::RefCell;
 use std::hint::black_box;
-use std::time::Instant;
-
-extern "C" {
-    fn hankuribo_read(text: *const u8, len: usize) -> usize;
-    fn hankuribo_plan(text: *const u8, len: usize) -> usize;
-    fn hankuribo_route(job: *const u8, len: usize, out: *mut u8, room: usize, line: *mut usize, bytes: *mut usize) -> usize;
-}
-
-fn our_read(text: &[u8]) -> usize {
-    unsafe { hankuribo_read(text.as_ptr(), text.len()) }
-}
-
-fn our_plan(text: &[u8]) -> usize {
-    unsafe { hankuribo_plan(text.as_ptr(), text.len()) }
-}
-
-/// Routes into `out`: the number of the refusal, the line that it names, the bytes of the layout.
-fn our_route(text: &[u8], out: &mut [u8]) -> (usize, usize, usize) {
-    let (mut line, mut bytes) = (0, 0);
-    let number = unsafe { hankuribo_route(text.as_ptr(), text.len(), out.as_mut_ptr(), out.len(), &mut line, &mut bytes) };
-    (number, line, bytes)
-}
-
-/// What the program `route` prints.
-fn our_text(text: &[u8]) -> Vec<u8> {
-    let mut out = vec![0; 64000];
-    match our_route(text, &mut out) {
-        (0, _, bytes) => out[..bytes].to_vec(),
-        (number, line, _) => format!("(refused {} {})\n", number, line).into_bytes(),
-    }
-}
 
 /// Families of the second router's generator, and how many seeds of each are taken, from 1 on.
 const FAMILIES: [(&str, u64); 6] = [("max", 12), ("dense", 3), ("blocky", 3), ("precedence", 3), ("stretch", 3), ("ties", 3)];
@@ -46,16 +22,44 @@ const SAMPLES: usize = 9;
 /// A sample of a short operation repeats it for about so many microseconds.
 const LEAST_SAMPLE: f64 = 500.0;
 
-/// The largest ratio of our route to the second router's that is aimed at on the family `max`.
+/// The largest ratio of our time to the second router's that is aimed at on the family `max`.
 const AIM: f64 = 1.5;
+
+/// A job, with its place in a table.
+struct Job {
+    family: &'static str,
+    seed: u64,
+    text: Vec<u8>,
+}
+
+#[repr(C)]
+struct Timespec {
+    seconds: i64,
+    nanoseconds: i64,
+}
+
+extern "C" {
+    fn clock_gettime(clock: i32, now: *mut Timespec) -> i32;
+}
+
+/// Linux's clock of the processor time that this thread has used.
+const THREAD_CLOCK: i32 = 3;
+
+/// Microseconds of processor time that this thread has used. What else runs on the machine does not count, though it shares the caches.
+fn used() -> f64 {
+    let mut now = Timespec { seconds: 0, nanoseconds: 0 };
+    let failed = unsafe { clock_gettime(THREAD_CLOCK, &mut now) };
+    assert!(failed == 0, "no clock of the thread's time");
+    now.seconds as f64 * 1e6 + now.nanoseconds as f64 / 1e3
+}
 
 /// Microseconds of one call.
 fn time(f: &dyn Fn() -> usize, calls: usize) -> f64 {
-    let start = Instant::now();
+    let start = used();
     for _ in 0..calls {
         black_box(f());
     }
-    start.elapsed().as_secs_f64() * 1e6 / calls as f64
+    (used() - start) / calls as f64
 }
 
 fn median(mut samples: Vec<f64>) -> f64 {
@@ -63,74 +67,156 @@ fn median(mut samples: Vec<f64>) -> f64 {
     samples[samples.len() / 2]
 }
 
-/// The median of each operation; their samples are taken in turn.
-fn measure(operations: [&dyn Fn() -> usize; 4]) -> [f64; 4] {
-    let calls = operations.map(|f| (LEAST_SAMPLE / time(f, 1)).ceil().max(1.0) as usize);
-    let mut samples = [const { Vec::new() }; 4];
-    for _ in 0..SAMPLES {
-        for i in 0..4 {
-            samples[i].push(time(operations[i], calls[i]));
-        }
+/// Samples of some operations, taken in turn.
+struct Samples<const N: usize>(Vec<[f64; N]>);
+
+impl<const N: usize> Samples<N> {
+    fn take(operations: [&dyn Fn() -> usize; N]) -> Samples<N> {
+        let calls = operations.map(|f| (LEAST_SAMPLE / time(f, 1)).ceil().max(1.0) as usize);
+        Samples((0..SAMPLES).map(|_| std::array::from_fn(|i| time(operations[i], calls[i]))).collect())
     }
-    samples.map(median)
+
+    /// The median of each operation.
+    fn medians(&self) -> [f64; N] {
+        std::array::from_fn(|i| median(self.0.iter().map(|turn| turn[i]).collect()))
+    }
+
+    /// The median of what one operation takes more than another.
+    fn less(&self, one: usize, other: usize) -> f64 {
+        median(self.0.iter().map(|turn| turn[one] - turn[other]).collect())
+    }
 }
 
-/// Holds the answer for a job against the second router's, byte for byte.
+/// Our read, plan and route, and the second router's route.
+fn measure_route(text: &[u8]) -> Samples<4> {
+    let out = RefCell::new(vec![0; hankuribo::MOST_BYTES]);
+    Samples::take([
+        &|| hankuribo::read(text),
+        &|| hankuribo::plan(text),
+        &|| hankuribo::route(text, &mut out.borrow_mut()).unwrap_or(0),
+        &|| route::route(text).len(),
+    ])
+}
+
+/// Our read and check, and the second router's check.
+fn measure_check(text: &[u8], layout: &[u8]) -> Samples<3> {
+    let is_sound = |sound| if sound { 1 } else { 0 };
+    Samples::take([
+        &|| hankuribo::read(text),
+        &|| is_sound(hankuribo::check(text, layout) == hankuribo::Verdict::Sound),
+        &|| is_sound(check::check(text, layout) == check::Verdict::Sound),
+    ])
+}
+
+/// Our answer for a job is the second router's, byte for byte, and so is the verdict on its layout.
 fn same_answers(text: &[u8]) -> bool {
-    our_text(text) == route::route(text).as_bytes()
+    let second = route::route(text).into_bytes();
+    let ours = match hankuribo::route_to_vec(text) {
+        Ok(layout) => layout,
+        Err(refusal) => format!("{}\n", refusal).into_bytes(),
+    };
+    ours == second && format!("{}\n", hankuribo::check(text, &second)) == check::check(text, &second).text()
+}
+
+/// Rows, nets and tracks of a job.
+fn size(text: &[u8]) -> [usize; 3] {
+    job::read(text).map_or([0; 3], |job| [job.rows, job.nets.len(), job.tracks])
+}
+
+/// Says how the ratios of the family `max` stand to the aim.
+fn summed_up(what: &str, ratios: Vec<f64>) {
+    let worst = ratios.iter().cloned().fold(0.0, f64::max);
+    println!("max: our {} takes {:.2} times the second router's (median), {:.2} at most; aimed at: {:.1}", what, median(ratios), worst, AIM);
+}
+
+fn families_table(jobs: &[Job]) {
+    println!(
+        "\nroute, by family\n{:<11}{:>4}{:>6}{:>6}{:>7}{:>11}{:>11}{:>11}{:>11}{:>7}{:>7}",
+        "family", "seed", "rows", "nets", "tracks", "read us", "plan us", "route us", "second us", "plan", "route"
+    );
+    let mut ratios = Vec::new();
+    for job in jobs {
+        let [rows, nets, tracks] = size(&job.text);
+        let [read, plan, ours, second] = measure_route(&job.text).medians();
+        println!(
+            "{:<11}{:>4}{:>6}{:>6}{:>7}{:>11.1}{:>11.1}{:>11.1}{:>11.1}{:>7.2}{:>7.2}",
+            job.family, job.seed, rows, nets, tracks, read, plan, ours, second, plan / second, ours / second
+        );
+        if job.family == "max" {
+            ratios.push(ours / second);
+        }
+    }
+    summed_up("route", ratios);
+}
+
+fn growing_table() {
+    println!(
+        "\nroute, by size\n{:>6}{:>6}{:>7}{:>8}{:>8}{:>11}{:>13}{:>12}{:>11}{:>11}{:>7}",
+        "rows", "nets", "tracks", "stretch", "bytes", "read us", "planning us", "drawing us", "route us", "second us", "route"
+    );
+    for of in growing::SIZES {
+        let text = growing::job_text(of);
+        let samples = measure_route(&text);
+        let [read, _, ours, second] = samples.medians();
+        let (planning, drawing) = (samples.less(1, 0), samples.less(2, 1));
+        println!(
+            "{:>6}{:>6}{:>7}{:>8}{:>8}{:>11.1}{:>13.1}{:>12.1}{:>11.1}{:>11.1}{:>7.2}",
+            of.rows, of.nets, of.tracks, of.stretch, text.len(), read, planning, drawing, ours, second, ours / second
+        );
+    }
+}
+
+fn check_table(jobs: &[Job]) {
+    println!(
+        "\ncheck of the second router's layouts, family max\n{:>4}{:>8}{:>8}{:>11}{:>12}{:>11}{:>11}{:>7}",
+        "seed", "lines", "bytes", "read us", "judging us", "check us", "second us", "check"
+    );
+    let mut ratios = Vec::new();
+    for job in jobs.iter().filter(|job| job.family == "max") {
+        let layout = route::route(&job.text).into_bytes();
+        let samples = measure_check(&job.text, &layout);
+        let [read, ours, second] = samples.medians();
+        let lines = layout.iter().filter(|&&byte| byte == 10).count();
+        println!(
+            "{:>4}{:>8}{:>8}{:>11.1}{:>12.1}{:>11.1}{:>11.1}{:>7.2}",
+            job.seed, lines, layout.len(), read, samples.less(1, 0), ours, second, ours / second
+        );
+        ratios.push(ours / second);
+    }
+    summed_up("check", ratios);
 }
 
 /// Texts of 64,000 bytes, the most that a job may have: empty lines alone; the largest job, padded with empty lines in front.
 fn long_texts() -> [(&'static str, Vec<u8>); 2] {
     let largest = gen::generate(1, "max").expect("a family");
-    let mut padded = vec![b'\n'; 64000 - largest.len()];
+    let mut padded = vec![b'\n'; hankuribo::MOST_BYTES - largest.len()];
     padded.extend_from_slice(&largest);
-    [("64,000 empty lines", vec![b'\n'; 64000]), ("the largest job padded to 64,000 bytes", padded)]
+    [("64,000 empty lines", vec![b'\n'; hankuribo::MOST_BYTES]), ("the largest job padded to 64,000 bytes", padded)]
 }
 
 fn main() {
     let mut jobs = Vec::new();
     for (family, seeds) in FAMILIES {
         for seed in 1..=seeds {
-            jobs.push((family, seed, gen::generate(seed, family).expect("a family")));
+            jobs.push(Job { family, seed, text: gen::generate(seed, family).expect("a family") });
         }
     }
-    let differ: Vec<_> = jobs.iter().filter(|(_, _, text)| !same_answers(text)).collect();
-    for (family, seed, _) in &differ {
-        println!("DIFFERS: {} {}", family, seed);
+    let grown = growing::SIZES.map(growing::job_text);
+    let texts = jobs.iter().map(|job| &job.text).chain(&grown);
+    for text in texts.clone() {
+        if !same_answers(text) {
+            println!("DIFFERS: the answer to this job, or the verdict on its layout\n{}", String::from_utf8_lossy(text));
+            std::process::exit(1);
+        }
     }
-    if !differ.is_empty() {
-        std::process::exit(1);
-    }
-    println!("{} jobs: the answers are the second router's, byte for byte\n", jobs.len());
+    println!("{} jobs: the answers are the second router's, byte for byte, and so are the verdicts on its layouts", texts.count());
 
-    println!(
-        "{:<11}{:>4}{:>6}{:>6}{:>7}{:>11}{:>11}{:>11}{:>11}{:>7}{:>7}",
-        "family", "seed", "rows", "nets", "tracks", "read us", "plan us", "route us", "second us", "plan", "route"
-    );
-    let (mut plans, mut routes) = (Vec::new(), Vec::new());
-    let mut out = vec![0; 64000];
-    for (family, seed, text) in &jobs {
-        let size = job::read(text).map_or([0; 3], |job| [job.rows, job.nets.len(), job.tracks]);
-        let out = std::cell::RefCell::new(&mut out);
-        let [read, plan, ours, second] =
-            measure([&|| our_read(text), &|| our_plan(text), &|| our_route(text, &mut out.borrow_mut()).2, &|| route::route(text).len()]);
-        println!(
-            "{:<11}{:>4}{:>6}{:>6}{:>7}{:>11.1}{:>11.1}{:>11.1}{:>11.1}{:>7.2}{:>7.2}",
-            family, seed, size[0], size[1], size[2], read, plan, ours, second, plan / second, ours / second
-        );
-        if *family == "max" {
-            plans.push(plan / second);
-            routes.push(ours / second);
-        }
-    }
+    families_table(&jobs);
+    growing_table();
+    check_table(&jobs);
     println!();
     for (what, text) in long_texts() {
-        let read = median((0..SAMPLES).map(|_| time(&|| our_read(&text), 10)).collect());
-        println!("read of {}: {:.1} us", what, read);
-    }
-    for (what, ratios) in [("plan", plans), ("route", routes)] {
-        let worst = ratios.iter().cloned().fold(0.0, f64::max);
-        println!("max: our {} takes {:.2} times the second router's route (median), {:.2} at most; aimed at: {:.1}", what, median(ratios), worst, AIM);
+        let [read, second] = Samples::take([&|| hankuribo::read(&text), &|| job::read(&text).is_ok() as usize]).medians();
+        println!("read of {}: {:.1} us, second router {:.1} us", what, read, second);
     }
 }

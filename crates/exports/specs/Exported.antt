@@ -1,6 +1,7 @@
 -- What the exported functions give, of what a text is read as.
 use Prim.Native.Nat.{ℕ, _+_}
 use mathlib.Core.Path.{_≡_}
+use mathlib.Core.Bool.{Bool, true, false}
 use mathlib.Core.List.{List, [], _∷_}
 use Rattle.jobfile.specs.Read.{Read, accepted, refused}
 use Rattle.jobfile.specs.Answers.{numberOf}
@@ -8,6 +9,8 @@ use Rattle.planning.specs.Plan.{planOf}
 use Rattle.planning.specs.Loose.{sumOfTracks}
 use Rattle.router.specs.declared.RouteAnswer.{RouteAnswer}
 use Rattle.router.specs.Answers.{routeValues}
+use Rattle.checker.specs.declared.CheckAnswer.{CheckAnswer}
+use Rattle.checker.specs.Answers.{checkValues}
 
 -- numbers added up
 unfoldable pub addedUp : List ℕ → ℕ
@@ -29,3 +32,14 @@ pub record RepliesWith (a : RouteAnswer) (number line bytes : ℕ) : Type 0 wher
   pub number-is : number ≡ routeValues a .number
   pub line-is : line ≡ routeValues a .line
   pub bytes-is : bytes ≡ routeValues a .bytes
+
+-- a yes or no as a number
+unfoldable pub oneIf : Bool → ℕ
+oneIf true = 1
+oneIf false = 0
+
+-- an answer of check has this number, line and word in document 01's words: broken is 1 where the layout is broken, otherwise 0
+pub record CheckRepliesWith (a : CheckAnswer) (number line broken : ℕ) : Type 0 where
+  pub number-is : number ≡ checkValues a .number
+  pub line-is : line ≡ checkValues a .line
+  pub broken-is : broken ≡ oneIf (checkValues a .broken)

@@ -1,4 +1,5 @@
-// What a program in another language can call: route, and, to be measured by `bench/`, its parts: reading a job, and planning it.
+// What a program in another language can call: route and check, and, to be measured by `bench/`, the parts of route: reading a job, and
+// planning it.
 ghost use mathlib.Core.Path.{_≡_};
 ghost use Prim.Native.Nat.{_≤_};
 ghost use Rattle.jobfile.specs.Read.{readJob};
@@ -7,7 +8,8 @@ ghost use Rattle.planning.specs.Plan.{planOf};
 ghost use Rattle.sound.specs.Sound.{Sound};
 ghost use Rattle.routing.specs.Promises.{ShortestText, UnbeatenText};
 ghost use Rattle.router.specs.Answers.{routeAnswer, RightFor, bufferAfter, OfWritten};
-ghost use Rattle.exports.specs.Exported.{addedUp, refusalOf, planSum, RepliesWith};
+ghost use Rattle.checker.specs.Answers.{checkAnswer};
+ghost use Rattle.exports.specs.Exported.{addedUp, refusalOf, planSum, oneIf, RepliesWith, CheckRepliesWith};
 
 // Routes a job into a buffer, and answers in document 01's numbers: the number of the refusal, 0 where the layout is written; through
 // `line` the line that it names, 0 where it names none; through `bytes` the length of the layout, written or needed.
@@ -29,6 +31,34 @@ pub extern "C" fn hankuribo_route(
     *line = router::answer_line(answer);
     *bytes = router::answer_bytes(answer);
     router::answer_number(answer)
+}
+
+// A yes or no as a number.
+fn one_if(yes: bool) -> usize
+    ensures { λ r. ⌜ r ≡ oneIf yes ⌝ }
+{
+    if yes {
+        return 1;
+    }
+    0
+}
+
+// Checks a layout for a job, and answers in document 01's words: the number of the refusal, 0 where nothing is refused; through `line`
+// the line that the refusal or the broken layout names, 0 where none is named; through `broken` 1 where the layout is broken, otherwise
+// 0. So all three are 0 where it is sound.
+#[no_mangle]
+pub extern "C" fn hankuribo_check(
+    job: &[u8],
+    layout: &[u8],
+    line: &mut usize,
+    broken: &mut usize,
+) -> usize
+    ensures { λ r. ⌜ CheckRepliesWith (checkAnswer (readJob (now (job .entry))) (now (layout .entry))) r (now (line .exit)) (now (broken .exit)) ⌝ }
+{
+    let answer = checker::check(job, layout);
+    *line = checker::check_line(answer);
+    *broken = one_if(checker::is_broken(answer));
+    checker::check_number(answer)
 }
 
 // The sums of all tracks, added up.

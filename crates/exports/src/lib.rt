@@ -9,6 +9,7 @@ ghost use Rattle.sound.specs.Sound.{Sound};
 ghost use Rattle.routing.specs.Promises.{ShortestText, UnbeatenText};
 ghost use Rattle.router.specs.Answers.{routeAnswer, RightFor, bufferAfter, OfWritten};
 ghost use Rattle.checker.specs.Answers.{checkAnswer};
+ghost use Rattle.checker.specs.RightVerdict.{RightVerdict};
 ghost use Rattle.exports.specs.Exported.{addedUp, refusalOf, planSum, oneIf, RepliesWith, CheckRepliesWith};
 
 // Routes a job into a buffer, and answers in document 01's numbers: the number of the refusal, 0 where the layout is written; through
@@ -54,6 +55,7 @@ pub extern "C" fn hankuribo_check(
     broken: &mut usize,
 ) -> usize
     ensures { λ r. ⌜ CheckRepliesWith (checkAnswer (readJob (now (job .entry))) (now (layout .entry))) r (now (line .exit)) (now (broken .exit)) ⌝ }
+    ensures { λ _. ⌜ RightVerdict (now (job .entry)) (now (layout .entry)) (checkAnswer (readJob (now (job .entry))) (now (layout .entry))) ⌝ }
 {
     let answer = checker::check(job, layout);
     *line = checker::check_line(answer);

@@ -1,4 +1,6 @@
 -- `exports::hankuribo_check` meets its contract. Assumes nothing.
+use mathlib.Core.Path.{subst}
+use Rattle.checker.specs.RightVerdict.{RightVerdict}
 use borrow.Author.Needs.{needs}
 use Rattle.exports.proofs.Verdicts.{check-reply-given}
 use Rattle.exports.proofs.hankuribo_check.Statement.{statement}
@@ -24,7 +26,10 @@ returns c =
     let o = c .before in
     let b = o .before in
     let l = b .before in
-    check-reply-given _ _ _ (l .before .check .ensures) _ _ _ _ (c .check-number .ensures) (l .check-line .ensures) (b .is-broken .ensures) (o .one-if .ensures)
+    let a = l .before .check .ensures in (
+      check-reply-given _ _ _ (a .0) _ _ _ _ (c .check-number .ensures) (l .check-line .ensures) (b .is-broken .ensures) (o .one-if .ensures),
+      subst (RightVerdict _ _) (a .0) (a .1),
+    )
 
 pub hankuribo-check-spec : {M : Type 1} → statement M
 hankuribo-check-spec =

@@ -1,17 +1,17 @@
--- `candidates::gather` meets its contract: before each turn of the loop arrays and flags hold the candidates among the nets passed. Assumes nothing.
+-- `gathering::gather` meets its contract: before each turn of the loop arrays and flags hold the candidates among the nets passed. Assumes nothing.
 use Prim.Native.Nat.{_-_, _≤_, _<_}
 use mathlib.Core.Path.{sym, _∙_}
 use native.Mathlib.Omega.{arith}
 use lib.ListN.{getD}
 use Rattle.board.specs.Stored.{noNet, jobOf}
 use Rattle.candidates.proofs.TrackBlocks.{none-blocked}
-use Rattle.candidates.proofs.LentNets.{not-eligible, is-ready}
-use Rattle.candidates.proofs.Gathering.{tops-range, Passed, passed-none, passed-skip, passed-take, passed-count, passed-all}
+use Rattle.toptable.proofs.LentNets.{not-eligible, is-ready}
+use Rattle.gathering.proofs.Gathering.{tops-range, Passed, passed-none, passed-skip, passed-take, passed-count, passed-all}
 use Rattle.candidates.proofs.ArraySizes.{net-size}
 use Rattle.candidates.proofs.NetBefore.{net-accepted}
 use borrow.Author.Needs.{needs}
-use Rattle.candidates.proofs.gather.Statement.{statement}
-use Rattle.candidates.proofs.gather.Tie as tie
+use Rattle.gathering.proofs.gather.Statement.{statement}
+use Rattle.gathering.proofs.gather.Tie as tie
 
 abbrev Inv-loop : tie.InvT-loop
 Inv-loop job before placed flags₀ any map table found₀ next₀ flags found next = (next ≤ job .nnets) × (found .count ≤ next) × Passed job placed (map .words) flags₀ found flags next

@@ -1,13 +1,13 @@
--- `candidates::eligible_nets` meets its contract: before each turn of the loop the nets passed are marked, and no number behind them is set. Assumes nothing.
+-- `toptable::eligible_nets` meets its contract: before each turn of the loop the nets passed are marked, and no number behind them is set. Assumes nothing.
 use Prim.Native.Nat.{_-_, _≤_, _<_}
 use mathlib.Core.Path.{_≡_, refl, sym, ap, _∙_}
 use mathlib.Core.Logic.{⊎-elim}
 use native.Mathlib.Omega.{arith}
 use lib.ListN.{length, length-set}
 use borrow.Author.Needs.{needs}
-use Rattle.candidates.proofs.EligibleMarks.{Marked, marked-none, marked-take, marked-skip}
-use Rattle.candidates.proofs.eligible_nets.Statement.{statement}
-use Rattle.candidates.proofs.eligible_nets.Tie as tie
+use Rattle.toptable.proofs.EligibleMarks.{Marked, marked-none, marked-take, marked-skip}
+use Rattle.toptable.proofs.eligible_nets.Statement.{statement}
+use Rattle.toptable.proofs.eligible_nets.Tie as tie
 
 abbrev Inv-loop : tie.InvT-loop
 Inv-loop nnets before placed table₀ i₀ table i = (i ≤ nnets) × (length table ≡ 2560) × Marked before placed table i

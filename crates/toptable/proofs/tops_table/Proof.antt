@@ -1,13 +1,13 @@
--- `candidates::tops_table` meets its contract: the nets of the job are lent, and the table comes back with what the choice needs of them. Assumes nothing.
+-- `toptable::tops_table` meets its contract: the nets of the job are lent, and the table comes back with what the choice needs of them. Assumes nothing.
 use mathlib.Core.Path.{_≡_}
 use native.Mathlib.Omega.{arith}
 use lib.ListN.{length}
 use Rattle.candidates.proofs.ArraySizes.{net-size}
 use Rattle.candidates.proofs.NetBefore.{before-range}
-use Rattle.candidates.proofs.LentNets.{nets-lent, table-made}
+use Rattle.toptable.proofs.LentNets.{nets-lent, table-made}
 use borrow.Author.Needs.{needs}
-use Rattle.candidates.proofs.tops_table.Statement.{statement}
-use Rattle.candidates.proofs.tops_table.Tie as tie
+use Rattle.toptable.proofs.tops_table.Statement.{statement}
+use Rattle.toptable.proofs.tops_table.Tie as tie
 
 eligible-nets-requires : tie.Need-eligible-nets-requires
 eligible-nets-requires c κs =

@@ -11,10 +11,10 @@ use Rattle.board.specs.declared.Net.{Net}
 use Rattle.board.specs.declared.StoredJob.{StoredJob}
 use Rattle.board.specs.Stored.{jobOf, noNet, AcceptedStored}
 use Rattle.blockmap.specs.Clear.{flag}
 use Rattle.candidates.specs.Placed.{precedingOf, eligibleAt}
-use Rattle.candidates.specs.TopsTable.{withAllTops, NetsLent, TableOf}
+use Rattle.toptable.specs.TopsTable.{withAllTops, NetsLent, TableOf}
 use Rattle.candidates.proofs.NetBefore.{net-accepted}
-use Rattle.candidates.proofs.TableTops.{all-tops-length, all-tops-at, mark-kept}
+use Rattle.toptable.proofs.TableTops.{all-tops-length, all-tops-at, mark-kept}
 
 module _ (s : StoredJob) (accepted : AcceptedStored s) (net-size : length (s .nets) ≡ 512) where
   abbrev lent : List Net

@@ -1,4 +1,4 @@
--- `candidates::put_all_tops` meets its contract: a walk of its MIR, by hand, with a loop. The invariant at i: the table has what the choice needs of the first i nets. Each turn looks into the lent slice of nets, copies record i, lends the table again and calls `put_tops` on both.
+-- `toptable::put_all_tops` meets its contract: a walk of its MIR, by hand, with a loop. The invariant at i: the table has what the choice needs of the first i nets. Each turn looks into the lent slice of nets, copies record i, lends the table again and calls `put_tops` on both.
 -- All that the proof knows of `put_tops` is that it meets its contract. The record's size, 40 bytes, stands in the walk. Assumes nothing.
 use mathlib.Core.Path.{_≡_, refl, sym, ap, subst, _∙_}
 use mathlib.Core.Bool.{Bool}
@@ -56,19 +56,19 @@ use Rattle.board.proofs.Net as T
 use Rattle.board.proofs.Net.Laws as T′
 use Rattle.board.proofs.Board as B
 use Rattle.board.proofs.Board.Laws as B′
-use Rattle.candidates.specs.TopsTable.{withTops, withAllTops, NetsLent}
-use Rattle.candidates.proofs.TableTops.{all-tops-length, all-tops-none, all-tops-more}
-use Rattle.candidates.proofs.UnitResult.{unit-typed}
-use Rattle.candidates.proofs.LentAgain.{LentAgain, lends-again, comes-back}
-use Rattle.candidates.proofs.put_tops as one
-use Rattle.candidates.proofs.put_tops.Symbol as one-def
-use Rattle.candidates.proofs.put_tops.Symbol.{name as #candidates·put-tops}
-use Rattle.candidates.proofs.put_tops.Met as one-thm
-use Rattle.candidates.proofs.put_all_tops.Key.{name as #candidates·put-all-tops}
-use Rattle.candidates.proofs.put_all_tops as all-tops
-use Rattle.candidates.proofs.put_all_tops.Statement as stated
-use Rattle.candidates.proofs.put_all_tops.Code as code
-use Rattle.candidates.proofs.put_all_tops.Code.Mir as Mir
+use Rattle.toptable.specs.TopsTable.{withTops, withAllTops, NetsLent}
+use Rattle.toptable.proofs.TableTops.{all-tops-length, all-tops-none, all-tops-more}
+use Rattle.toptable.proofs.UnitResult.{unit-typed}
+use Rattle.toptable.proofs.LentAgain.{LentAgain, lends-again, comes-back}
+use Rattle.toptable.proofs.put_tops as one
+use Rattle.toptable.proofs.put_tops.Symbol as one-def
+use Rattle.toptable.proofs.put_tops.Symbol.{name as #toptable·put-tops}
+use Rattle.toptable.proofs.put_tops.Met as one-thm
+use Rattle.toptable.proofs.put_all_tops.Key.{name as #toptable·put-all-tops}
+use Rattle.toptable.proofs.put_all_tops as all-tops
+use Rattle.toptable.proofs.put_all_tops.Statement as stated
+use Rattle.toptable.proofs.put_all_tops.Code as code
+use Rattle.toptable.proofs.put_all_tops.Code.Mir as Mir
 
 abbrev R : RattleType
 R = T.the-row
@@ -199,7 +199,7 @@ module _ {M : Type 1} (𝓤 : URA M) (H : Heap 𝓤) (A : Atoms 𝓤) (W : Given
   Nearer-wf : WellFounded Nearer
   Nearer-wf = InvImage·wf (λ (i : Upto). n - i .0) (Nat·lt-wfRel .wf)
 
-  module _ (𝓣 : Tables 𝓤 H) (known : Triple 𝓤 (𝓣 .C #candidates·put-tops) (PutTops 𝓤 H A mem run)) (gn : Room R n) (gt : Room usize (length ts)) where
+  module _ (𝓣 : Tables 𝓤 H) (known : Triple 𝓤 (𝓣 .C #toptable·put-tops) (PutTops 𝓤 H A mem run)) (gn : Room R n) (gt : Room usize (length ts)) where
     abbrev C : Calls 𝓤 H
     C = 𝓣 .C
 
@@ -302,7 +302,7 @@ module _ {M : Type 1} (𝓤 : URA M) (H : Heap 𝓤) (A : Atoms 𝓤) (W : Given
         starts l₀ l₁ l₂ l₃ l₄ l₅ l₆ l₇ l₈ l₉ l₁₀ l₁₁))))))))))))
 
 module _ {M : Type 1} (𝓤 : URA M) (H : Heap 𝓤) (A : Atoms 𝓤) (W : Given 𝓤 H A) (mem : Memory → SProp 𝓤) (run : Routine → Fun 𝓤) where
-  put-all-tops-walks : (𝓣 : Tables 𝓤 H) → Triple 𝓤 (𝓣 .C #candidates·put-tops) (PutTops 𝓤 H A mem run)
+  put-all-tops-walks : (𝓣 : Tables 𝓤 H) → Triple 𝓤 (𝓣 .C #toptable·put-tops) (PutTops 𝓤 H A mem run)
       → Walks 𝓤 H A all-tops.ended stayed (WpFn 𝓤 H (𝓣 .C) (𝓣 .Λ) code.function) (all-tops.clauses 𝓤 H A mem run)
   put-all-tops-walks 𝓣 known = walked 𝓤 H A all-tops.ended stayed (all-tops.clauses 𝓤 H A mem run) (WpFn 𝓤 H (𝓣 .C) (𝓣 .Λ) code.function)
       (λ κs. (slice-vals, (LL.vals B.the-type B′.the-laws, (slice-vals, tt)))) (λ κs. (shr-slice-tells (named 0) (κs .0) R, (LL.tells B.the-type B′.the-laws, (mut-slice-tells (named 1) (κs .1 .0) usize, tt))))
@@ -310,7 +310,7 @@ module _ {M : Type 1} (𝓤 : URA M) (H : Heap 𝓤) (A : Atoms 𝓤) (W : Given
       walk 𝓤 H A W mem run (κs .0) (qs .0) (a .0 .ptr .0) (a .0 .ptr .1) (a .0 .name) (a .0 .now) (a .1 .0) (are .1 .0) (κs .1 .0) (qs .1 .0) (a .1 .1 .0 .ptr .0) (a .1 .1 .0 .ptr .1) (a .1 .1 .0 .name) (a .1 .1 .0 .now) asks 𝓣 known (are .0 .0 .1) (are .1 .1 .0 .0 .1)))
 
 put-all-tops-meets : {M : Type 1} (𝓤 : URA M) (H : Heap 𝓤) (A : Atoms 𝓤) (W : Given 𝓤 H A) (mem : Memory → SProp 𝓤) (run : Routine → Fun 𝓤) (𝓣 : Tables 𝓤 H)
-    → Triple 𝓤 (𝓣 .C #candidates·put-tops) (PutTops 𝓤 H A mem run)
+    → Triple 𝓤 (𝓣 .C #toptable·put-tops) (PutTops 𝓤 H A mem run)
     → Meets 𝓤 H A all-tops.signature (WpFn 𝓤 H (𝓣 .C) (𝓣 .Λ) code.function) (all-tops.spec 𝓤 H A mem run)
 put-all-tops-meets 𝓤 H A W mem run 𝓣 known =
     walk-meets 𝓤 H A all-tops.ended stayed W (goes-none-slice 𝓤 H A W 2 (0 ∷ []) tt (plain (λ _. R)) yes, (goes-none 𝓤 H A W 2 (λ _. Bd) yes (λ κs x f. refl), (goes-slice 𝓤 H A W 2 1 tt (plain (λ _. usize)), tt))) (all-tops.clauses 𝓤 H A mem run)
@@ -320,6 +320,6 @@ pub put-all-tops-spec : {M : Type 1} → stated.statement M
 unfolding code.routine tablesOf
 put-all-tops-spec 𝓤 H 𝓜 𝓖 𝓡 =
     entered 𝓤 H (tripleOf 𝓤 H (𝓖 .A) all-tops.signature (all-tops.spec 𝓤 H (𝓖 .A) (𝓜 .mem) (𝓡 .run)))
-    (tables 𝓤 H 𝓜 𝓡 code.env .C) (tables 𝓤 H 𝓜 𝓡 code.env .Λ) #candidates·put-all-tops code.function (code.unfolded 𝓤 H 𝓜 𝓡)
+    (tables 𝓤 H 𝓜 𝓡 code.env .C) (tables 𝓤 H 𝓜 𝓡 code.env .Λ) #toptable·put-all-tops code.function (code.unfolded 𝓤 H 𝓜 𝓡)
     (put-all-tops-meets 𝓤 H (𝓖 .A) (givenOf 𝓤 H 𝓜 𝓖) (𝓜 .mem) (𝓡 .run) (tablesOf 𝓤 H 𝓜 (tables 𝓤 H 𝓜 𝓡 code.env))
-    (cited 𝓤 H (PutTops 𝓤 H (𝓖 .A) (𝓜 .mem) (𝓡 .run)) 𝓜 𝓡 code.env #candidates·put-tops one-def.routine code.calls-candidates·put-tops (one-thm.met 𝓤 H 𝓜 𝓖 𝓡)))
+    (cited 𝓤 H (PutTops 𝓤 H (𝓖 .A) (𝓜 .mem) (𝓡 .run)) 𝓜 𝓡 code.env #toptable·put-tops one-def.routine code.calls-toptable·put-tops (one-thm.met 𝓤 H 𝓜 𝓖 𝓡)))

@@ -1,4 +1,4 @@
--- `candidates::lent_tops` meets its contract: a walk of its MIR, by hand. The array is copied to a memory slot, whose first `count` records are lent as a slice for a lifetime that is made here. `put_all_tops` is called, the lifetime ends, and the slot is back to be freed. The table goes on at its own lifetime.
+-- `toptable::lent_tops` meets its contract: a walk of its MIR, by hand. The array is copied to a memory slot, whose first `count` records are lent as a slice for a lifetime that is made here. `put_all_tops` is called, the lifetime ends, and the slot is back to be freed. The table goes on at its own lifetime.
 -- All that the proof knows of `put_all_tops` is that it meets its contract. Assumes nothing.
 use mathlib.Core.Path.{_≡_, refl, sym, subst}
 use Prim.Native.Nat.{ℕ, _*_, _≤_, _<_, _^_}
@@ -56,16 +56,16 @@ use Rattle.board.proofs.Net as T
 use Rattle.board.proofs.Net.Laws as T′
 use Rattle.board.proofs.Board as B
 use Rattle.board.proofs.Board.Laws as B′
-use Rattle.candidates.specs.TopsTable.{withAllTops, NetsLent}
-use Rattle.candidates.proofs.UnitResult.{unit-typed}
-use Rattle.candidates.proofs.put_all_tops as each
-use Rattle.candidates.proofs.put_all_tops.Symbol as each-def
-use Rattle.candidates.proofs.put_all_tops.Symbol.{name as #candidates·put-all-tops}
-use Rattle.candidates.proofs.put_all_tops.Met as each-thm
-use Rattle.candidates.proofs.lent_tops.Key.{name as #candidates·lent-tops}
-use Rattle.candidates.proofs.lent_tops as lent-tops
-use Rattle.candidates.proofs.lent_tops.Statement as stated
-use Rattle.candidates.proofs.lent_tops.Code as code
+use Rattle.toptable.specs.TopsTable.{withAllTops, NetsLent}
+use Rattle.toptable.proofs.UnitResult.{unit-typed}
+use Rattle.toptable.proofs.put_all_tops as each
+use Rattle.toptable.proofs.put_all_tops.Symbol as each-def
+use Rattle.toptable.proofs.put_all_tops.Symbol.{name as #toptable·put-all-tops}
+use Rattle.toptable.proofs.put_all_tops.Met as each-thm
+use Rattle.toptable.proofs.lent_tops.Key.{name as #toptable·lent-tops}
+use Rattle.toptable.proofs.lent_tops as lent-tops
+use Rattle.toptable.proofs.lent_tops.Statement as stated
+use Rattle.toptable.proofs.lent_tops.Code as code
 
 abbrev R : RattleType
 R = T.the-row
@@ -155,7 +155,7 @@ module _ {M : Type 1} (𝓤 : URA M) (H : Heap 𝓤) (A : Atoms 𝓤) (W : Given
     room : length ys ≡ 512 → Room R (length front)
     room e = subst (λ (n : ℕ). Room R n) (sym (front-length e)) (omega arith, omega arith)
 
-    module _ (C : Calls 𝓤 H) (Λ : Loops 𝓤 H) (fm : FmC 𝓤 H (W .laws) C) (known : Triple 𝓤 (C #candidates·put-all-tops) (PutAll 𝓤 H A at-mem run)) (same : (vs : List Val) → Is All ys vs → vs ≡ v ∷ []) where
+    module _ (C : Calls 𝓤 H) (Λ : Loops 𝓤 H) (fm : FmC 𝓤 H (W .laws) C) (known : Triple 𝓤 (C #toptable·put-all-tops) (PutAll 𝓤 H A at-mem run)) (same : (vs : List Val) → Is All ys vs → vs ≡ v ∷ []) where
       walk : Holds (hasTy τ v) × WT v → Room usize (length ts) → NetsLent bd front ts
           → ent 𝓤 (onEntry 𝓤 H A lent-tops.signature (κ₁, tt) (q₁, tt) x at) (WpFn 𝓤 H C Λ code.function (v ∷ vint w64 count ∷ machine bd ∷ tv ∷ []) Post)
       unfolding partOf
@@ -206,7 +206,7 @@ module _ {M : Type 1} (𝓤 : URA M) (H : Heap 𝓤) (A : Atoms 𝓤) (W : Given
           keep ! (0 ∷ 1 ∷ 3 ∷ []) $ by ! (exits (zs .1 .1 .0) e′ same-length))))))))))))))))))))))))
 
 module _ {M : Type 1} (𝓤 : URA M) (H : Heap 𝓤) (A : Atoms 𝓤) (W : Given 𝓤 H A) (at-mem : Memory → SProp 𝓤) (run : Routine → Fun 𝓤) where
-  lent-tops-walks : (C : Calls 𝓤 H) (Λ : Loops 𝓤 H) → FmC 𝓤 H (W .laws) C → Triple 𝓤 (C #candidates·put-all-tops) (PutAll 𝓤 H A at-mem run)
+  lent-tops-walks : (C : Calls 𝓤 H) (Λ : Loops 𝓤 H) → FmC 𝓤 H (W .laws) C → Triple 𝓤 (C #toptable·put-all-tops) (PutAll 𝓤 H A at-mem run)
       → Walks 𝓤 H A lent-tops.ended stayed (WpFn 𝓤 H C Λ code.function) (lent-tops.clauses 𝓤 H A at-mem run)
   lent-tops-walks C Λ fm known = walked 𝓤 H A lent-tops.ended stayed (lent-tops.clauses 𝓤 H A at-mem run) (WpFn 𝓤 H C Λ code.function)
       (λ κs. (array-vals vals, (uint-vals w64, (LL.vals B.the-type B′.the-laws, (slice-vals, tt))))) (λ κs. (array-tells R vals (LL.tells T.the-type T′.the-laws) 512, (uint-tells w64, (LL.tells B.the-type B′.the-laws, (mut-slice-tells (named 0) (κs .0) usize, tt)))))
@@ -215,7 +215,7 @@ module _ {M : Type 1} (𝓤 : URA M) (H : Heap 𝓤) (A : Atoms 𝓤) (W : Given
       (array-tells R vals (LL.tells T.the-type T′.the-laws) 512 (a .0)) (array-typed R (LL.lawful T.the-type T′.the-laws 𝓤 H A W .typed) 512 (a .0) _ (are .0) .0) (are .1 .1 .1 .0 .0 .1) (h .1)))
 
 lent-tops-meets : {M : Type 1} (𝓤 : URA M) (H : Heap 𝓤) (A : Atoms 𝓤) (W : Given 𝓤 H A) (at-mem : Memory → SProp 𝓤) (run : Routine → Fun 𝓤) (𝓣 : Tables 𝓤 H)
-    → Triple 𝓤 (𝓣 .C #candidates·put-all-tops) (PutAll 𝓤 H A at-mem run)
+    → Triple 𝓤 (𝓣 .C #toptable·put-all-tops) (PutAll 𝓤 H A at-mem run)
     → Meets 𝓤 H A lent-tops.signature (WpFn 𝓤 H (𝓣 .C) (𝓣 .Λ) code.function) (lent-tops.spec 𝓤 H A at-mem run)
 lent-tops-meets 𝓤 H A W at-mem run 𝓣 known =
     walk-meets 𝓤 H A lent-tops.ended stayed W (goes-none 𝓤 H A W 1 (λ _. All) yes (λ κs x f. refl), (goes-none 𝓤 H A W 1 (λ _. usize) yes (λ κs x f. refl), (goes-none 𝓤 H A W 1 (λ _. Bd) yes (λ κs x f. refl), (goes-gave-slice 𝓤 H A W 1 0 tt (plain (λ _. usize)), tt)))) (lent-tops.clauses 𝓤 H A at-mem run)
@@ -225,6 +225,6 @@ pub lent-tops-spec : {M : Type 1} → stated.statement M
 unfolding code.routine tablesOf
 lent-tops-spec 𝓤 H 𝓜 𝓖 𝓡 =
     entered 𝓤 H (tripleOf 𝓤 H (𝓖 .A) lent-tops.signature (lent-tops.spec 𝓤 H (𝓖 .A) (𝓜 .mem) (𝓡 .run)))
-    (tables 𝓤 H 𝓜 𝓡 code.env .C) (tables 𝓤 H 𝓜 𝓡 code.env .Λ) #candidates·lent-tops code.function (code.unfolded 𝓤 H 𝓜 𝓡)
+    (tables 𝓤 H 𝓜 𝓡 code.env .C) (tables 𝓤 H 𝓜 𝓡 code.env .Λ) #toptable·lent-tops code.function (code.unfolded 𝓤 H 𝓜 𝓡)
     (lent-tops-meets 𝓤 H (𝓖 .A) (givenOf 𝓤 H 𝓜 𝓖) (𝓜 .mem) (𝓡 .run) (tablesOf 𝓤 H 𝓜 (tables 𝓤 H 𝓜 𝓡 code.env))
-    (cited 𝓤 H (PutAll 𝓤 H (𝓖 .A) (𝓜 .mem) (𝓡 .run)) 𝓜 𝓡 code.env #candidates·put-all-tops each-def.routine code.calls-candidates·put-all-tops (each-thm.met 𝓤 H 𝓜 𝓖 𝓡)))
+    (cited 𝓤 H (PutAll 𝓤 H (𝓖 .A) (𝓜 .mem) (𝓡 .run)) 𝓜 𝓡 code.env #toptable·put-all-tops each-def.routine code.calls-toptable·put-all-tops (each-thm.met 𝓤 H 𝓜 𝓖 𝓡)))

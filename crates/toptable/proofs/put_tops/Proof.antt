@@ -1,8 +1,8 @@
--- `candidates::put_tops` meets its contract: an eligible net's four numbers are put, of another nothing. Assumes nothing.
-use Rattle.candidates.proofs.TableTops.{tops-kept, tops-put, worth-place, first-place, last-place}
+-- `toptable::put_tops` meets its contract: an eligible net's four numbers are put, of another nothing. Assumes nothing.
+use Rattle.toptable.proofs.TableTops.{tops-kept, tops-put, worth-place, first-place, last-place}
 use borrow.Author.Needs.{needs}
-use Rattle.candidates.proofs.put_tops.Statement.{statement}
-use Rattle.candidates.proofs.put_tops.Tie as tie
+use Rattle.toptable.proofs.put_tops.Statement.{statement}
+use Rattle.toptable.proofs.put_tops.Tie as tie
 
 mul-if1 : tie.Need-mul-if1
 mul-if1 c = search needs

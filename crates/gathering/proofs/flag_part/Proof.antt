@@ -1,14 +1,14 @@
--- `candidates::flag_part` meets its contract: part i is lent, and comes back with the flags of the tops. Assumes nothing.
+-- `gathering::flag_part` meets its contract: part i is lent, and comes back with the flags of the tops. Assumes nothing.
 use Prim.Native.Nat.{ℕ, _+_, _*_, _-_}
 use mathlib.Core.Path.{_∙_}
 use mathlib.Core.List.{List}
 use borrow.Rule.Slice.PartMut.{midOf}
 use Rattle.blockmap.specs.Clear.{allUnset, flagTops}
 use Rattle.candidates.specs.declared.NetTops.{NetTops}
 use Rattle.candidates.proofs.FlagParts.{part-back, all-clear}
 use borrow.Author.Needs.{needs}
-use Rattle.candidates.proofs.flag_part.Statement.{statement}
-use Rattle.candidates.proofs.flag_part.Tie as tie
+use Rattle.gathering.proofs.flag_part.Statement.{statement}
+use Rattle.gathering.proofs.flag_part.Tie as tie
 
 -- the flags of the tops
 abbrev FlaggedTops : List ℕ → NetTops → List ℕ → List ℕ

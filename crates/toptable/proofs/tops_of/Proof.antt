@@ -1,10 +1,10 @@
--- `candidates::tops_of` meets its contract: each part is that of the net at its shortest length. Assumes nothing.
+-- `toptable::tops_of` meets its contract: each part is that of the net at its shortest length. Assumes nothing.
 use mathlib.Core.Path.{ap, _∙_}
 use Rattle.board.specs.Placement.{firstTop, lastTop}
 use Rattle.board.proofs.Tops.{accepted-fits}
 use borrow.Author.Needs.{needs}
-use Rattle.candidates.proofs.tops_of.Statement.{statement}
-use Rattle.candidates.proofs.tops_of.Tie as tie
+use Rattle.toptable.proofs.tops_of.Statement.{statement}
+use Rattle.toptable.proofs.tops_of.Tie as tie
 
 shortest-requires : tie.Need-shortest-requires
 shortest-requires c κs = search needs

@@ -15,9 +15,9 @@ use Rattle.board.specs.declared.Shape.{Shape}
 use Rattle.board.specs.Length.{shortest, needed, worth}
 use Rattle.board.specs.Placement.{firstTop, lastTop}
 use Rattle.board.specs.Stored.{noNet}
 use Rattle.candidates.specs.declared.NetTops.{NetTops}
 use Rattle.candidates.specs.Gathered.{TopsOf}
-use Rattle.candidates.specs.TopsTable.{withTops, withAllTops, topsIn}
+use Rattle.toptable.specs.TopsTable.{withTops, withAllTops, topsIn}
 
 -- the four numbers of net i
 abbrev pub fourPut : List ℕ → ℕ → NetTops → List ℕ

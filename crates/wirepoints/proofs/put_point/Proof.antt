@@ -1,11 +1,11 @@
--- `writer::put_point` meets its contract: four writes in a row. Assumes nothing.
+-- `wirepoints::put_point` meets its contract: four writes in a row. Assumes nothing.
 use mathlib.Core.List.{[], _∷_, _++_}
 use native.Mathlib.Omega.{arith}
 use Rattle.text.proofs.Writing.{lengths, kept-at, chain-at}
-use Rattle.writer.proofs.Parts.{point-parts, point-length}
+use Rattle.wirepoints.proofs.Parts.{point-parts, point-length}
 use borrow.Author.Needs.{needs}
-use Rattle.writer.proofs.put_point.Statement.{statement}
-use Rattle.writer.proofs.put_point.Tie as tie
+use Rattle.wirepoints.proofs.put_point.Statement.{statement}
+use Rattle.wirepoints.proofs.put_point.Tie as tie
 
 slice-aggregate-put-bytes-at : tie.Need-slice-aggregate-put-bytes-at
 slice-aggregate-put-bytes-at c = search needs

@@ -1,12 +1,12 @@
--- `writer::put_three` meets its contract: three writes in a row. Assumes nothing.
+-- `wirepoints::put_three` meets its contract: three writes in a row. Assumes nothing.
 use mathlib.Core.List.{[], _∷_, _++_}
 use native.Mathlib.Omega.{arith}
 use Rattle.text.proofs.Writing.{lengths, kept-at, chain-at}
-use Rattle.writer.specs.Lines.{threeText}
-use Rattle.writer.proofs.Parts.{three-length}
+use Rattle.wirepoints.specs.Points.{threeText}
+use Rattle.wirepoints.proofs.Parts.{three-length}
 use borrow.Author.Needs.{needs}
-use Rattle.writer.proofs.put_three.Statement.{statement}
-use Rattle.writer.proofs.put_three.Tie as tie
+use Rattle.wirepoints.proofs.put_three.Statement.{statement}
+use Rattle.wirepoints.proofs.put_three.Tie as tie
 
 put-next-requires : tie.Need-put-next-requires
 put-next-requires c κs = omega (arith, three-length (c .before .before .args .p) (c .before .before .args .q) (c .before .before .args .r) (c .before .before .args .s))

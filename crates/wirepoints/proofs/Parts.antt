@@ -1,25 +1,22 @@
--- The texts of points and lines in parts, as the writers write them, and their lengths. Assumes nothing.
-use Prim.Native.Nat.{ℕ, _+_}
+-- The texts of points in parts, as the writers write them, and their lengths; the points of a placement by its shape. Assumes nothing.
+use Prim.Native.Nat.{ℕ, _+_, _*_, _-_, _≤_, _<_}
 use mathlib.Core.Path.{_≡_, refl, sym}
 use mathlib.Core.Bool.{true, false}
 use mathlib.Core.List.{List, [], _∷_, _++_, append-assoc, append-nil}
 use native.Mathlib.Omega.{arith}
 use lib.ListN.{length, length-append, take-append-drop}
-use Rattle.text.specs.Written.{Written, WrittenAt}
+use borrow.Author.Tests.{lt-ltb, le-ltb}
+use Rattle.text.specs.Written.{WrittenAt}
 use Rattle.text.specs.Digits.{digits}
-use Rattle.keywords.specs.Keywords.{wordOf}
-use Rattle.keywords.specs.declared.Vocabulary.the-variants.{Layout}
+use Rattle.board.specs.declared.Board.{Board}
+use Rattle.board.specs.declared.Net.{Net}
+use Rattle.board.specs.declared.Row.{Row}
+use Rattle.board.specs.declared.Shape.the-variants.{Plain, Stretched}
+use Rattle.board.specs.declared.Track.{Track}
+use Rattle.board.specs.Length.{width, span}
 use Rattle.layout.specs.declared.Point.{Point}
-use Rattle.layout.specs.Drawing.{at, samePoint}
-use Rattle.writer.specs.Lines.{headText, pointText, nextText, threeText, tailText, pathText, pinText, plainPath, stretchedPath}
-
-pub head-parts : (i n : ℕ) → headText i n ≡ ((32 ∷ 40 ∷ []) ++ wordOf Layout i) ++ (32 ∷ digits n)
-unfolding headText
-head-parts i n = simp append-assoc
-
-pub head-length : (i n : ℕ) → length (headText i n) ≡ 3 + length (wordOf Layout i) + length (digits n)
-unfolding headText
-head-length i n = simp length-append (omega arith)
+use Rattle.layout.specs.Drawing.{at, samePoint, viaColumn, wireColumn, nearRow, farRow, corners}
+use Rattle.wirepoints.specs.Points.{pointText, nextText, threeText, tailText, pathText, pinText, plainPath, stretchedPath, pointsText}
 
 pub point-parts : (p : Point) → pointText p ≡ (((32 ∷ 40 ∷ []) ++ digits (p .column)) ++ (32 ∷ digits (p .row))) ++ (41 ∷ [])
 unfolding pointText
@@ -57,6 +54,26 @@ pub tail-parts : (c w : ℕ) (p : Point) (r v : ℕ) → tailText c w p r v ≡ 
 unfolding tailText
 tail-parts c w p r v = refl
 
--- what stands from place 0 on stands at the start
-pub from-start : {w s t : List ℕ} {r : ℕ} → WrittenAt 0 w s t r → Written w s t r
-from-start v = record { used = omega (arith, v .next); bytes = v .bytes }
+-- ---- the points of a placement by its shape
+
+pub plain-points : (board : Board) (t : Track) (net : Net) (top : Row) →
+    pointsText board t net Plain top ≡ pinText (net .left .0) (plainPath (2 * t .0 - 1) (width board) (net .left .0) (net .right .0))
+unfolding corners viaColumn
+plain-points board t net top = refl
+
+-- the rows of the stretched part: from the top down with L < R, else from the bottom up
+pub down-points : (board : Board) (t : Track) (net : Net) (e : ℕ) (top : Row) → 1 ≤ t .0 → net .left .0 < net .right .0 →
+    pointsText board t net (Stretched e) top ≡
+    pinText (net .left .0) (stretchedPath (2 * t .0 - 1) (width board) (net .left .0) (net .right .0) (top .0) (top .0 + span net + e))
+unfolding corners viaColumn wireColumn nearRow farRow
+down-points board t net e top h l =
+    let c : 2 * t .0 - 1 + 1 ≡ 2 * t .0 = omega arith in
+    rw (lt-ltb (net .left .0) (net .right .0) l, c)
+
+pub up-points : (board : Board) (t : Track) (net : Net) (e : ℕ) (top : Row) → 1 ≤ t .0 → net .right .0 ≤ net .left .0 →
+    pointsText board t net (Stretched e) top ≡
+    pinText (net .left .0) (stretchedPath (2 * t .0 - 1) (width board) (net .left .0) (net .right .0) (top .0 + span net + e) (top .0))
+unfolding corners viaColumn wireColumn nearRow farRow
+up-points board t net e top h l =
+    let c : 2 * t .0 - 1 + 1 ≡ 2 * t .0 = omega arith in
+    rw (le-ltb (net .left .0) (net .right .0) l, c)

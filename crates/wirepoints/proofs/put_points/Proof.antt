@@ -1,4 +1,4 @@
--- `writer::put_points` meets its contract: by the shape, and by which pin is above. Assumes nothing.
+-- `wirepoints::put_points` meets its contract: by the shape, and by which pin is above. Assumes nothing.
 use Prim.Native.Nat.{_+_, _-_, _*_, _≤_}
 use mathlib.Core.Path.{_≡_, sym, ap}
 use native.Mathlib.Omega.{arith}
@@ -9,11 +9,11 @@ use Rattle.board.specs.declared.Shape.the-variants.{Plain, Stretched}
 use Rattle.board.specs.Length.{extra}
 use Rattle.board.proofs.ShortestShape.{fixed-rows}
 use Rattle.text.specs.Written.{WrittenAt}
-use Rattle.writer.specs.Lines.{pointsText}
-use Rattle.writer.proofs.Lines.{plain-points, down-points, up-points}
+use Rattle.wirepoints.specs.Points.{pointsText}
+use Rattle.wirepoints.proofs.Parts.{plain-points, down-points, up-points}
 use borrow.Author.Needs.{needs}
-use Rattle.writer.proofs.put_points.Statement.{statement}
-use Rattle.writer.proofs.put_points.Tie as tie
+use Rattle.wirepoints.proofs.put_points.Statement.{statement}
+use Rattle.wirepoints.proofs.put_points.Tie as tie
 
 width-requires : tie.Need-width-requires
 width-requires c κs = search needs

@@ -1,9 +1,9 @@
--- `writer::same_point` meets its contract. Assumes nothing.
+-- `wirepoints::same_point` meets its contract. Assumes nothing.
 use mathlib.Core.Path.{_≡_, sym}
 use borrow.Author.Tests.{ne-eqb, eq-eqb}
 use Rattle.layout.specs.Drawing.{samePoint}
-use Rattle.writer.proofs.same_point.Statement.{statement}
-use Rattle.writer.proofs.same_point.Tie as tie
+use Rattle.wirepoints.proofs.same_point.Statement.{statement}
+use Rattle.wirepoints.proofs.same_point.Tie as tie
 
 returns : tie.Need-returns
 unfolding samePoint

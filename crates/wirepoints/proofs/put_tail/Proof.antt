@@ -1,11 +1,11 @@
--- `writer::put_tail` meets its contract: three points and one more. Assumes nothing.
+-- `wirepoints::put_tail` meets its contract: three points and one more. Assumes nothing.
 use mathlib.Core.List.{[], _∷_, _++_}
 use native.Mathlib.Omega.{arith}
 use Rattle.text.proofs.Writing.{lengths, kept-at, chain-at}
-use Rattle.writer.proofs.Parts.{tail-parts}
+use Rattle.wirepoints.proofs.Parts.{tail-parts}
 use borrow.Author.Needs.{needs}
-use Rattle.writer.proofs.put_tail.Statement.{statement}
-use Rattle.writer.proofs.put_tail.Tie as tie
+use Rattle.wirepoints.proofs.put_tail.Statement.{statement}
+use Rattle.wirepoints.proofs.put_tail.Tie as tie
 
 add-t13 : tie.Need-add-t13
 add-t13 c = search needs

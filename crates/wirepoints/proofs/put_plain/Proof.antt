@@ -1,11 +1,11 @@
--- `writer::put_plain` meets its contract: the pin, and three points behind it. Assumes nothing.
+-- `wirepoints::put_plain` meets its contract: the pin, and three points behind it. Assumes nothing.
 use mathlib.Core.List.{[], _∷_, _++_}
 use native.Mathlib.Omega.{arith}
 use Rattle.text.proofs.Writing.{lengths, kept-at, chain-at}
-use Rattle.writer.proofs.Parts.{plain-parts}
+use Rattle.wirepoints.proofs.Parts.{plain-parts}
 use borrow.Author.Needs.{needs}
-use Rattle.writer.proofs.put_plain.Statement.{statement}
-use Rattle.writer.proofs.put_plain.Tie as tie
+use Rattle.wirepoints.proofs.put_plain.Statement.{statement}
+use Rattle.wirepoints.proofs.put_plain.Tie as tie
 
 put-point-requires : tie.Need-put-point-requires
 put-point-requires c κs = omega (arith, simp lengths at (rw (plain-parts (c .before .before .args .c) (c .before .before .args .w) (c .before .before .args .l .0) (c .before .before .args .r .0)) at (c .before .before .pre)))

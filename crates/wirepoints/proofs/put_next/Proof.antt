@@ -1,4 +1,4 @@
--- `writer::put_next` meets its contract: nothing is written where the points are equal. Assumes nothing.
+-- `wirepoints::put_next` meets its contract: nothing is written where the points are equal. Assumes nothing.
 use Prim.Native.Nat.{_+_, _≤_}
 use mathlib.Core.Path.{_≡_, sym, _∙_}
 use mathlib.Core.Bool.{true, false}
@@ -6,11 +6,11 @@ use native.Mathlib.Omega.{arith}
 use lib.ListN.{length}
 use denote.Ref.{now}
 use Rattle.text.specs.Written.{WrittenAt}
-use Rattle.writer.specs.Lines.{pointText, nextText}
-use Rattle.writer.proofs.Parts.{next-same, next-other}
+use Rattle.wirepoints.specs.Points.{pointText, nextText}
+use Rattle.wirepoints.proofs.Parts.{next-same, next-other}
 use borrow.Author.Needs.{needs}
-use Rattle.writer.proofs.put_next.Statement.{statement}
-use Rattle.writer.proofs.put_next.Tie as tie
+use Rattle.wirepoints.proofs.put_next.Statement.{statement}
+use Rattle.wirepoints.proofs.put_next.Tie as tie
 
 same-point-requires : tie.Need-same-point-requires
 same-point-requires c κs = search needs

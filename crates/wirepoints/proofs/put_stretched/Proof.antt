@@ -1,11 +1,11 @@
--- `writer::put_stretched` meets its contract: the pin, three points behind it, and those behind them. Assumes nothing.
+-- `wirepoints::put_stretched` meets its contract: the pin, three points behind it, and those behind them. Assumes nothing.
 use mathlib.Core.List.{[], _∷_, _++_}
 use native.Mathlib.Omega.{arith}
 use Rattle.text.proofs.Writing.{lengths, kept-at, chain-at}
-use Rattle.writer.proofs.Parts.{stretched-parts}
+use Rattle.wirepoints.proofs.Parts.{stretched-parts}
 use borrow.Author.Needs.{needs}
-use Rattle.writer.proofs.put_stretched.Statement.{statement}
-use Rattle.writer.proofs.put_stretched.Tie as tie
+use Rattle.wirepoints.proofs.put_stretched.Statement.{statement}
+use Rattle.wirepoints.proofs.put_stretched.Tie as tie
 
 put-point-requires : tie.Need-put-point-requires
 put-point-requires c κs =

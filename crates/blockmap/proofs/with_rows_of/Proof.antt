@@ -1,11 +1,11 @@
--- `blockmap::with_block` meets its contract: before each turn of the loop the rows from the first to before the current one are added. Assumes nothing.
+-- `blockmap::with_rows_of` meets its contract: before each turn of the loop the rows from the first to before the current one are added. Assumes nothing.
 use Rattle.blockmap.proofs.BlockRows.{Added, added-none, added-more, added-all}
 use Prim.Native.Nat.{_≤_, _+_, _-_}
 use mathlib.Core.Path.{_≡_}
 use native.Mathlib.Omega.{arith}
 use borrow.Author.Needs.{needs}
-use Rattle.blockmap.proofs.with_block.Statement.{statement}
-use Rattle.blockmap.proofs.with_block.Tie as tie
+use Rattle.blockmap.proofs.with_rows_of.Statement.{statement}
+use Rattle.blockmap.proofs.with_rows_of.Tie as tie
 
 abbrev Inv-loop : tie.InvT-loop
 Inv-loop next₀ first end row₀ next row = (first ≤ row) × (row ≤ end) × Added (next₀ .words) (next .words) first row
@@ -46,8 +46,8 @@ returns c =
     let e : l .row ≡ a .block .last .0 + 1 = omega arith in
     added-all (a .map .words) (l .next .words) (a .block .first .0) (a .block .last .0) (rw e at (l .inv .2))
 
-pub with-block-spec : {M : Type 1} → statement M
-with-block-spec =
+pub with-rows-of-spec : {M : Type 1} → statement M
+with-rows-of-spec =
     tie.close
     (tie.spec
     Inv-loop

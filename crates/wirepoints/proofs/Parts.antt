@@ -1,22 +1,24 @@
 -- The texts of points in parts, as the writers write them, and their lengths; the points of a placement by its shape. Assumes nothing.
-use Prim.Native.Nat.{ℕ, _+_, _*_, _-_, _≤_, _<_}
-use mathlib.Core.Path.{_≡_, refl, sym}
-use mathlib.Core.Bool.{true, false}
+use Prim.Native.Nat.{ℕ, _+_, _*_, _-_, _≤_}
+use mathlib.Core.Path.{_≡_, refl, sym, ap}
+use mathlib.Core.Bool.{Bool, true, false, cond}
 use mathlib.Core.List.{List, [], _∷_, _++_, append-assoc, append-nil}
 use native.Mathlib.Omega.{arith}
 use lib.ListN.{length, length-append, take-append-drop}
-use borrow.Author.Tests.{lt-ltb, le-ltb}
+use lib.Dec.{ltb}
 use Rattle.text.specs.Written.{WrittenAt}
 use Rattle.text.specs.Digits.{digits}
 use Rattle.board.specs.declared.Board.{Board}
 use Rattle.board.specs.declared.Net.{Net}
 use Rattle.board.specs.declared.Row.{Row}
+use Rattle.board.specs.declared.Shape.{Shape}
 use Rattle.board.specs.declared.Shape.the-variants.{Plain, Stretched}
 use Rattle.board.specs.declared.Track.{Track}
-use Rattle.board.specs.Length.{width, span}
+use Rattle.board.specs.Length.{width, span, extra}
+use Rattle.board.proofs.ShortestShape.{fixed-rows}
 use Rattle.layout.specs.declared.Point.{Point}
 use Rattle.layout.specs.Drawing.{at, samePoint, viaColumn, wireColumn, nearRow, farRow, corners}
-use Rattle.wirepoints.specs.Points.{pointText, nextText, threeText, tailText, pathText, pinText, plainPath, stretchedPath, pointsText}
+use Rattle.wirepoints.specs.Points.{pointText, nextText, threeText, tailText, pathText, pinText, plainPath, stretchedPath, pointsText, Drawable}
 
 pub point-parts : (p : Point) → pointText p ≡ (((32 ∷ 40 ∷ []) ++ digits (p .column)) ++ (32 ∷ digits (p .row))) ++ (41 ∷ [])
 unfolding pointText
@@ -54,26 +56,29 @@ pub tail-parts : (c w : ℕ) (p : Point) (r v : ℕ) → tailText c w p r v ≡ 
 unfolding tailText
 tail-parts c w p r v = refl
 
--- ---- the points of a placement by its shape
+-- ---- the points of a placement by its shape, where the code holds the width w and the rows m between the pins
 
-pub plain-points : (board : Board) (t : Track) (net : Net) (top : Row) →
-    pointsText board t net Plain top ≡ pinText (net .left .0) (plainPath (2 * t .0 - 1) (width board) (net .left .0) (net .right .0))
+pub plain-points : (board : Board) (t : Track) (net : Net) (shape : Shape) (top : Row) (w : ℕ) → shape ≡ Plain → w ≡ width board →
+    pointsText board t net shape top ≡ pinText (net .left .0) (plainPath (2 * t .0 - 1) w (net .left .0) (net .right .0))
 unfolding corners viaColumn
-plain-points board t net top = refl
+plain-points board t net shape top w s e = rw (s, e)
 
--- the rows of the stretched part: from the top down with L < R, else from the bottom up
-pub down-points : (board : Board) (t : Track) (net : Net) (e : ℕ) (top : Row) → 1 ≤ t .0 → net .left .0 < net .right .0 →
-    pointsText board t net (Stretched e) top ≡
-    pinText (net .left .0) (stretchedPath (2 * t .0 - 1) (width board) (net .left .0) (net .right .0) (top .0) (top .0 + span net + e))
-unfolding corners viaColumn wireColumn nearRow farRow
-down-points board t net e top h l =
-    let c : 2 * t .0 - 1 + 1 ≡ 2 * t .0 = omega arith in
-    rw (lt-ltb (net .left .0) (net .right .0) l, c)
+module _ (board : Board) (t : Track) (net : Net) (shape : Shape) (top : Row) (w m e : ℕ) (s : shape ≡ Stretched e) (low : 1 ≤ t .0)
+    (width-is : w ≡ width board) (span-is : m ≡ span net) where
+  -- the rows of the stretched part: from the top down with L < R, else from the bottom up
+  pub stretched-points : (b : Bool) → ltb (net .left .0) (net .right .0) ≡ b → pointsText board t net shape top ≡
+      pinText (net .left .0) (stretchedPath (2 * t .0 - 1) w (net .left .0) (net .right .0) (cond b (top .0) (top .0 + m + e)) (cond b (top .0 + m + e) (top .0)))
+  unfolding corners viaColumn wireColumn nearRow farRow
+  stretched-points b l =
+      let c : 2 * t .0 - 1 + 1 ≡ 2 * t .0 = omega arith in
+      rw (s, width-is, span-is, l, c)
 
-pub up-points : (board : Board) (t : Track) (net : Net) (e : ℕ) (top : Row) → 1 ≤ t .0 → net .right .0 ≤ net .left .0 →
-    pointsText board t net (Stretched e) top ≡
-    pinText (net .left .0) (stretchedPath (2 * t .0 - 1) (width board) (net .left .0) (net .right .0) (top .0 + span net + e) (top .0))
-unfolding corners viaColumn wireColumn nearRow farRow
-up-points board t net e top h l =
-    let c : 2 * t .0 - 1 + 1 ≡ 2 * t .0 = omega arith in
-    rw (le-ltb (net .left .0) (net .right .0) l, c)
+  -- the bottom row is a small number
+  pub bottom-small : Drawable board t net shape top → top .0 + m + e ≤ 6144
+  bottom-small d =
+      let x : extra shape ≡ e = ap extra s in
+      omega (arith, span-is, fixed-rows board net (d .net-range), d .board-range, d .stretch-range, d .top-range)
+
+-- a text is written under another name
+pub written-as : {x y s t : List ℕ} {at r : ℕ} → x ≡ y → WrittenAt at y s t r → WrittenAt at x s t r
+written-as e w = rw e w

@@ -1,16 +1,13 @@
 -- `wirepoints::put_points` meets its contract: by the shape, and by which pin is above. Assumes nothing.
 use Prim.Native.Nat.{_+_, _-_, _*_, _≤_}
-use mathlib.Core.Path.{_≡_, sym, ap}
+use mathlib.Core.Path.{_≡_, ap}
+use mathlib.Core.Bool.{Bool, true, false, cond}
 use native.Mathlib.Omega.{arith}
 use lib.ListN.{length}
-use denote.Ref.{now}
-use Rattle.board.specs.declared.Shape.{Shape}
-use Rattle.board.specs.declared.Shape.the-variants.{Plain, Stretched}
-use Rattle.board.specs.Length.{extra}
-use Rattle.board.proofs.ShortestShape.{fixed-rows}
-use Rattle.text.specs.Written.{WrittenAt}
-use Rattle.wirepoints.specs.Points.{pointsText}
-use Rattle.wirepoints.proofs.Parts.{plain-points, down-points, up-points}
+use lib.Dec.{ltb}
+use borrow.Author.Tests.{lt-ltb, le-ltb}
+use Rattle.wirepoints.specs.Points.{pointsText, pinText, stretchedPath}
+use Rattle.wirepoints.proofs.Parts.{plain-points, stretched-points, bottom-small, written-as}
 use borrow.Author.Needs.{needs}
 use Rattle.wirepoints.proofs.put_points.Statement.{statement}
 use Rattle.wirepoints.proofs.put_points.Tie as tie
@@ -29,10 +26,10 @@ enum-told c = search needs
 
 put-plain-requires : tie.Need-put-plain-requires
 put-plain-requires c κs =
-    let a = c .before .before .before .before .before .before .args in
-    let e : a .shape ≡ Plain = c .before .enum-told .given .1 in
-    let h : a .at + length (pointsText (a .board) (a .track) (a .net) (a .shape) (a .top)) ≤ length (now (a .out)) = c .before .before .before .before .before .before .pre .1 in
-    rw (c .before .before .before .before .width .ensures) (rw (e, plain-points (a .board) (a .track) (a .net) (a .top)) at h)
+    let w = c .before .before .before .before in
+    let p = w .before .before in
+    let a = p .args in
+    omega (arith, p .pre .1, ap length (plain-points (a .board) (a .track) (a .net) (a .shape) (a .top) (w .width .result) (c .before .enum-told .given .1) (w .width .ensures)))
 
 enum-known-shape : tie.Need-enum-known-shape
 enum-known-shape c = search needs
@@ -40,76 +37,61 @@ enum-known-shape c = search needs
 span-requires : tie.Need-span-requires
 span-requires c κs = search needs
 
+-- at a stretched wire, with its width and span told: its bottom row, and its points, down or up
+bottom : (k : tie.After-struct-known2) → k .before .before .before .before .before .before .before .before .args .top .0 + k .before .span .result + k .before .before .before .shape .given .0 .0 ≤ 6144
+bottom k =
+    let s = k .before .before .before in
+    let w = s .before .before .before in
+    let p = w .before .before in
+    let a = p .args in
+    bottom-small (a .board) (a .track) (a .net) (a .shape) (a .top) (w .width .result) (k .before .span .result) (s .shape .given .0 .0) (s .shape .given .1) (p .pre .0 .track-range .0) (w .width .ensures) (k .before .span .ensures) (p .pre .0)
+
+drawn : (k : tie.After-struct-known2) (b : Bool) → let a = k .before .before .before .before .before .before .before .before .args in let v = a .top .0 + k .before .span .result + k .before .before .before .shape .given .0 .0 in
+    ltb (a .net .left .0) (a .net .right .0) ≡ b → pointsText (a .board) (a .track) (a .net) (a .shape) (a .top)
+    ≡ pinText (a .net .left .0) (stretchedPath (2 * a .track .0 - 1) (k .before .before .before .before .before .before .width .result) (a .net .left .0) (a .net .right .0) (cond b (a .top .0) v) (cond b v (a .top .0)))
+drawn k =
+    let s = k .before .before .before in
+    let w = s .before .before .before in
+    let p = w .before .before in
+    let a = p .args in
+    stretched-points (a .board) (a .track) (a .net) (a .shape) (a .top) (w .width .result) (k .before .span .result) (s .shape .given .0 .0) (s .shape .given .1) (p .pre .0 .track-range .0) (w .width .ensures) (k .before .span .ensures)
+
 add-t17 : tie.Need-add-t17
-add-t17 c =
-    let a = c .before .before .before .before .before .before .before .before .args in
-    let p = c .before .before .before .before .before .before .before .before .pre .0 in
-    let e : a .shape ≡ Stretched (c .before .before .before .shape .given .0 .0) = c .before .before .before .shape .given .1 in
-    let x : extra (a .shape) ≡ c .before .before .before .shape .given .0 .0 = ap extra e in
-    omega (arith, c .before .span .ensures, fixed-rows (a .board) (a .net) (p .net-range), p .board-range, p .stretch-range, p .top-range)
+add-t17 c = omega (arith, bottom c)
 
 add-t18 : tie.Need-add-t18
-add-t18 c =
-    let a = c .before .before .before .before .before .before .before .before .args in
-    let p = c .before .before .before .before .before .before .before .before .pre .0 in
-    let e : a .shape ≡ Stretched (c .before .before .before .shape .given .0 .0) = c .before .before .before .shape .given .1 in
-    let x : extra (a .shape) ≡ c .before .before .before .shape .given .0 .0 = ap extra e in
-    omega (arith, c .before .span .ensures, fixed-rows (a .board) (a .net) (p .net-range), p .board-range, p .stretch-range, p .top-range)
+add-t18 c = omega (arith, bottom c)
 
 put-stretched-requires : tie.Need-put-stretched-requires
 put-stretched-requires c κs =
-    let a = c .before .before .before .before .before .before .before .before .before .before .before .args in
-    let p = c .before .before .before .before .before .before .before .before .before .before .before .pre .0 in
-    let k = c .before .before .before .before .before .before .shape .given .0 .0 in
-    let e : a .shape ≡ Stretched k = c .before .before .before .before .before .before .shape .given .1 in
-    let h : a .at + length (pointsText (a .board) (a .track) (a .net) (a .shape) (a .top)) ≤ length (now (a .out)) = c .before .before .before .before .before .before .before .before .before .before .before .pre .1 in (
-      omega (arith, p .track-range),
-      rw (c .before .before .before .before .before .before .before .before .before .width .ensures, c .before .before .before .before .span .ensures) (rw (e, down-points (a .board) (a .track) (a .net) k (a .top) (p .track-range .0) (c .before .if1 .taken)) at h),
-    )
+    let p = c .before .before .before .before .before .before .before .before .before .before .before in
+    (omega (arith, p .pre .0 .track-range), omega (arith, p .pre .1, ap length (drawn (c .before .before .before) true (lt-ltb _ _ (c .before .if1 .taken)))))
 
 put-stretched-requires-2 : tie.Need-put-stretched-requires-2
 put-stretched-requires-2 c κs =
-    let a = c .before .before .before .before .before .before .before .before .before .before .before .args in
-    let p = c .before .before .before .before .before .before .before .before .before .before .before .pre .0 in
-    let k = c .before .before .before .before .before .before .shape .given .0 .0 in
-    let e : a .shape ≡ Stretched k = c .before .before .before .before .before .before .shape .given .1 in
-    let h : a .at + length (pointsText (a .board) (a .track) (a .net) (a .shape) (a .top)) ≤ length (now (a .out)) = c .before .before .before .before .before .before .before .before .before .before .before .pre .1 in (
-      omega (arith, p .track-range),
-      rw (c .before .before .before .before .before .before .before .before .before .width .ensures, c .before .before .before .before .span .ensures) (rw (e, up-points (a .board) (a .track) (a .net) k (a .top) (p .track-range .0) (c .before .if1 .left)) at h),
-    )
+    let p = c .before .before .before .before .before .before .before .before .before .before .before in
+    (omega (arith, p .pre .0 .track-range), omega (arith, p .pre .1, ap length (drawn (c .before .before .before) false (le-ltb _ _ (c .before .if1 .left)))))
 
 same-length : tie.Need-same-length
 same-length c = search needs
 
 returns : tie.Need-returns
 returns c =
-    let a = c .before .before .before .before .before .before .before .before .before .args in
-    let e : a .shape ≡ Plain = c .before .before .before .before .enum-told .given .1 in
-    rw (e, plain-points (a .board) (a .track) (a .net) (a .top)) (rw (c .before .before .before .before .before .before .before .width .ensures) at (c .before .before .put-plain .ensures))
+    let w = c .before .before .before .before .before .before .before in
+    let a = w .before .before .args in
+    written-as (plain-points (a .board) (a .track) (a .net) (a .shape) (a .top) (w .width .result) (c .before .before .before .before .enum-told .given .1) (w .width .ensures)) (c .before .before .put-plain .ensures)
 
 same-length-2 : tie.Need-same-length-2
 same-length-2 c = search needs
 
 returns-2 : tie.Need-returns-2
-returns-2 c =
-    let a = c .before .before .before .before .before .before .before .before .before .before .before .before .before .before .args in
-    let p = c .before .before .before .before .before .before .before .before .before .before .before .before .before .before .pre .0 in
-    let k = c .before .before .before .before .before .before .before .before .before .shape .given .0 .0 in
-    let e : a .shape ≡ Stretched k = c .before .before .before .before .before .before .before .before .before .shape .given .1 in
-    rw (e, down-points (a .board) (a .track) (a .net) k (a .top) (p .track-range .0) (c .before .before .before .before .if1 .taken))
-    (rw (c .before .before .before .before .before .before .before .before .before .before .before .before .width .ensures, c .before .before .before .before .before .before .before .span .ensures) at (c .before .before .put-stretched .ensures))
+returns-2 c = let i = c .before .before .before .before in written-as (drawn (i .before .before) true (lt-ltb _ _ (i .if1 .taken))) (c .before .before .put-stretched .ensures)
 
 same-length-3 : tie.Need-same-length-3
 same-length-3 c = search needs
 
 returns-3 : tie.Need-returns-3
-returns-3 c =
-    let a = c .before .before .before .before .before .before .before .before .before .before .before .before .before .before .args in
-    let p = c .before .before .before .before .before .before .before .before .before .before .before .before .before .before .pre .0 in
-    let k = c .before .before .before .before .before .before .before .before .before .shape .given .0 .0 in
-    let e : a .shape ≡ Stretched k = c .before .before .before .before .before .before .before .before .before .shape .given .1 in
-    rw (e, up-points (a .board) (a .track) (a .net) k (a .top) (p .track-range .0) (c .before .before .before .before .if1 .left))
-    (rw (c .before .before .before .before .before .before .before .before .before .before .before .before .width .ensures, c .before .before .before .before .before .before .before .span .ensures) at (c .before .before .put-stretched2 .ensures))
+returns-3 c = let i = c .before .before .before .before in written-as (drawn (i .before .before) false (le-ltb _ _ (i .if1 .left))) (c .before .before .put-stretched2 .ensures)
 
 pub put-points-spec : {M : Type 1} → statement M
 put-points-spec =

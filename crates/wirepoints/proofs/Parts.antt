@@ -80,5 +80,5 @@ module _ (board : Board) (t : Track) (net : Net) (shape : Shape) (top : Row) (w 
       omega (arith, span-is, fixed-rows board net (d .net-range), d .board-range, d .stretch-range, d .top-range)
 
 -- a text is written under another name
-pub written-as : {x y s t : List ℕ} {at r : ℕ} → x ≡ y → WrittenAt at y s t r → WrittenAt at x s t r
-written-as e w = rw e w
+pub written-at-as : {x y s t : List ℕ} {at r : ℕ} → x ≡ y → WrittenAt at x s t r → WrittenAt at y s t r
+written-at-as e w = rw e at w

@@ -1,13 +1,13 @@
 -- `wirepoints::put_points` meets its contract: by the shape, and by which pin is above. Assumes nothing.
 use Prim.Native.Nat.{_+_, _-_, _*_, _≤_}
-use mathlib.Core.Path.{_≡_, ap}
+use mathlib.Core.Path.{_≡_, sym, ap}
 use mathlib.Core.Bool.{Bool, true, false, cond}
 use native.Mathlib.Omega.{arith}
 use lib.ListN.{length}
 use lib.Dec.{ltb}
 use borrow.Author.Tests.{lt-ltb, le-ltb}
 use Rattle.wirepoints.specs.Points.{pointsText, pinText, stretchedPath}
-use Rattle.wirepoints.proofs.Parts.{plain-points, stretched-points, bottom-small, written-as}
+use Rattle.wirepoints.proofs.Parts.{plain-points, stretched-points, bottom-small, written-at-as}
 use borrow.Author.Needs.{needs}
 use Rattle.wirepoints.proofs.put_points.Statement.{statement}
 use Rattle.wirepoints.proofs.put_points.Tie as tie
@@ -79,19 +79,19 @@ returns : tie.Need-returns
 returns c =
     let w = c .before .before .before .before .before .before .before in
     let a = w .before .before .args in
-    written-as (plain-points (a .board) (a .track) (a .net) (a .shape) (a .top) (w .width .result) (c .before .before .before .before .enum-told .given .1) (w .width .ensures)) (c .before .before .put-plain .ensures)
+    written-at-as (sym (plain-points (a .board) (a .track) (a .net) (a .shape) (a .top) (w .width .result) (c .before .before .before .before .enum-told .given .1) (w .width .ensures))) (c .before .before .put-plain .ensures)
 
 same-length-2 : tie.Need-same-length-2
 same-length-2 c = search needs
 
 returns-2 : tie.Need-returns-2
-returns-2 c = let i = c .before .before .before .before in written-as (drawn (i .before .before) true (lt-ltb _ _ (i .if1 .taken))) (c .before .before .put-stretched .ensures)
+returns-2 c = let i = c .before .before .before .before in written-at-as (sym (drawn (i .before .before) true (lt-ltb _ _ (i .if1 .taken)))) (c .before .before .put-stretched .ensures)
 
 same-length-3 : tie.Need-same-length-3
 same-length-3 c = search needs
 
 returns-3 : tie.Need-returns-3
-returns-3 c = let i = c .before .before .before .before in written-as (drawn (i .before .before) false (le-ltb _ _ (i .if1 .left))) (c .before .before .put-stretched2 .ensures)
+returns-3 c = let i = c .before .before .before .before in written-at-as (sym (drawn (i .before .before) false (le-ltb _ _ (i .if1 .left)))) (c .before .before .put-stretched2 .ensures)
 
 pub put-points-spec : {M : Type 1} → statement M
 put-points-spec =

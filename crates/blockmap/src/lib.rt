@@ -51,7 +51,7 @@ pub fn is_blocked(words: &[u64; 16], row: Row) -> bool
 }
 
 // The map with the rows of a block blocked, its first and its last row included.
-pub fn with_block(map: BlockMap, block: Block) -> BlockMap
+pub fn with_rows_of(map: BlockMap, block: Block) -> BlockMap
     requires { ⌜ (1 ≤ block .first .0) × (block .first .0 ≤ block .last .0) × (block .last .0 ≤ 1024) ⌝ }
     ensures { λ r. ⌜ ((k : ℕ) → isSet (r .words) k ≡ (leb (block .first .0) k && leb k (block .last .0) || isSet (map .words) k)) ⌝ }
 {
@@ -70,7 +70,7 @@ pub fn with_block_on(map: BlockMap, track: Track, block: Block) -> BlockMap
     ensures { λ r. ⌜ ((k : ℕ) → isSet (r .words) k ≡ (closesRow block (track .0) k || isSet (map .words) k)) ⌝ }
 {
     if block.track.0 == track.0 {
-        return with_block(map, block);
+        return with_rows_of(map, block);
     }
     map
 }

@@ -6,9 +6,3 @@ pub mod FlagParts
 pub mod NetBefore
 pub mod Eligible
 pub mod Slots
-pub mod EligibleMarks
-pub mod TableTops
-pub mod LentAgain
-pub mod UnitResult
-pub mod LentNets
-pub mod Gathering

@@ -1,4 +1,3 @@
 -- The candidates for a track, held against the model.
 pub mod Placed
 pub mod Gathered
-pub mod TopsTable

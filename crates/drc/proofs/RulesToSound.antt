@@ -86,7 +86,7 @@ module _ (job : Job) (rise : EachPair (λ a b. a .number < b .number) (job .nets
       let c = tracks-count job (suc t) (earlier ++ wireNumbers (tr .wires)) trs (k .3) in
       let r = places-of (suc t) earlier (omega arith) (omega arith) [] (tr .wires) (k .2) in (
         record {
-          number = k .0;
+          track-is = k .0;
           places = r .ps;
           drawn = r .drawn;
           placed = r .placed;

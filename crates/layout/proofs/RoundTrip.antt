@@ -107,15 +107,15 @@ points-read ps = ap (λ (ws : List (List ℕ)). pointsOf (map (valueFrom 0) ws))
 
 -- a line's text, read, is the line
 
-lineWords : Line → List (List ℕ)
-lineWords opens = layoutWord ∷ []
-lineWords (track t n) = trackWord ∷ digits t ∷ digits n ∷ []
-lineWords (wire w) = wireWord ∷ digits (w .number) ∷ pointWords (w .points)
-lineWords (loose n) = looseWord ∷ digits n ∷ []
-lineWords closes = []
+writtenWords : Line → List (List ℕ)
+writtenWords opens = layoutWord ∷ []
+writtenWords (track t n) = trackWord ∷ digits t ∷ digits n ∷ []
+writtenWords (wire w) = wireWord ∷ digits (w .number) ∷ pointWords (w .points)
+writtenWords (loose n) = looseWord ∷ digits n ∷ []
+writtenWords closes = []
 
-words-line : (x : Line) → wordsIn (lineText x) ≡ lineWords x
-unfolding lineText wordsIn pieces nonEmpty joined lineWords
+words-line : (x : Line) → wordsIn (lineText x) ≡ writtenWords x
+unfolding lineText wordsIn pieces nonEmpty joined writtenWords
 words-line opens = refl
 words-line (track t n) =
     ap (λ (ws : List (List ℕ)). trackWord ∷ ws)
@@ -127,17 +127,17 @@ words-line closes = refl
 ofWords : List (List ℕ) → Line
 ofWords ws = lineFrom (getD ws 0 []) (map (valueFrom 0) (drop 1 ws))
 
-of-line-words : (x : Line) → ofWords (lineWords x) ≡ x
-unfolding ofWords lineWords lineFrom same
-of-line-words opens = refl
-of-line-words (track t n) = rw (value-digits t, value-digits n)
-of-line-words (wire w) = rw (value-digits (w .number), points-back (w .points))
-of-line-words (loose n) = rw (value-digits n)
-of-line-words closes = refl
+of-written-words : (x : Line) → ofWords (writtenWords x) ≡ x
+unfolding ofWords writtenWords lineFrom same
+of-written-words opens = refl
+of-written-words (track t n) = rw (value-digits t, value-digits n)
+of-written-words (wire w) = rw (value-digits (w .number), points-back (w .points))
+of-written-words (loose n) = rw (value-digits n)
+of-written-words closes = refl
 
 pub rough-line : (x : Line) → roughLine (lineText x) ≡ x
 unfolding roughLine ofWords
-rough-line x = ap ofWords (words-line x) ∙ of-line-words x
+rough-line x = ap ofWords (words-line x) ∙ of-written-words x
 
 pub read-line : (x : Line) → smallLine x ≡ true → readLine (lineText x) ≡ some x
 unfolding readLine

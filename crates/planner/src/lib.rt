@@ -15,10 +15,10 @@ use board::StoredJob;
 use board::Track;
 use board::needed;
 use board::shortest;
-use candidates::gather;
 use candidates::preceding;
 use choice::TrackPlan;
 use choice::fill;
+use gathering::gather;
 
 // Where a net stands: on no track, or on a track with its top at a row, in a shape.
 pub enum Stand {

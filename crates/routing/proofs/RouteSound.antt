@@ -104,7 +104,7 @@ module _ (job : Job) (rise : EachPair (λ a b. a .number < b .number) (job .nets
       let ws = wiresOf job on t in
       let r = track-optimal job allowed on t .rival in (
         record {
-          number = refl;
+          track-is = refl;
           places = ws;
           drawn = refl;
           placed = Each-map ws (λ p w. record { of-job = w .of-job; legal = w .legal; clear = w .clear; ready = w .eligible .ready }) (r .placeable);

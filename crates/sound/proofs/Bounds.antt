@@ -221,7 +221,7 @@ module _ (job : Job) (a : AcceptedJob job) where
       let t-le : t ≤ job .board .tracks = omega arith in
       let bounds : Each WireBound (map (wireOf (job .board) t) (x .places)) =
       Each-mapped (wireOf (job .board) t) WireBound (x .places) (Each-map (x .places) (λ p q. wire-bounds (job .board) (a .board-range) t p t-le (a .nets-each (p .net) (q .of-job) .in-range) (q .legal .to-last)) (x .placed)) in (
-        record { number = omega (arith, x .number); sum = omega arith; wires = rw (x .drawn) bounds },
+        record { number = omega (arith, x .track-is); sum = omega arith; wires = rw (x .drawn) bounds },
         track-bounds (earlier ++ wireNumbers (tr .wires)) (suc t) trs (s .1) (omega arith) (omega arith),
       )
 

@@ -24,7 +24,7 @@ pub record SoundPlacement (job : Job) (earlier : List ℕ) (t : ℕ) (p : Placem
 
 -- the line of track t and the wires under it keep the rules, where the nets with the numbers `earlier` stand on earlier tracks
 pub record SoundTrack (job : Job) (earlier : List ℕ) (t : ℕ) (tr : DrawnTrack) : Type 0 where
-  pub number : tr .track ≡ t
+  pub track-is : tr .track ≡ t
   pub places : List Placement
   pub drawn : tr .wires ≡ map (wireOf (job .board) t) places
   pub placed : Each (SoundPlacement job earlier t) places

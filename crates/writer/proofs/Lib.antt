@@ -1,3 +1,2 @@
--- The parts of the lines of a layout.
-pub mod Parts
+-- Laws of the lines of a layout.
 pub mod Lines

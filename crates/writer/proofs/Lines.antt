@@ -1,28 +1,35 @@
--- The lines of a layout in the parts that the writers write one after another. Assumes nothing.
-use Prim.Native.Nat.{ℕ, _+_, _*_, _-_, _≤_, _<_}
-use mathlib.Core.Path.{_≡_, refl, sym, ap, _∙_}
-use mathlib.Core.Bool.{true, false, cond}
-use mathlib.Core.List.{List, [], _∷_, _++_, append-assoc, append-nil}
+-- The lines of a layout in the parts that the writers write one after another, and their lengths. Assumes nothing.
+use Prim.Native.Nat.{ℕ, _+_}
+use mathlib.Core.Path.{_≡_, refl, ap}
+use mathlib.Core.Bool.{true, false}
+use mathlib.Core.List.{List, [], _∷_, _++_, append-assoc}
 use native.Mathlib.Omega.{arith}
-use lib.Dec.{ltb}
-use borrow.Author.Tests.{lt-ltb, le-ltb}
+use lib.ListN.{length, length-append}
 use Rattle.lists.proofs.Cases.{by-test}
 use Rattle.text.specs.Digits.{digits}
+use Rattle.text.specs.Written.{Written, WrittenAt}
 use Rattle.keywords.specs.Keywords.{wordOf, wireWord}
 use Rattle.keywords.specs.declared.Vocabulary.the-variants.{Layout}
 use Rattle.board.specs.declared.Board.{Board}
 use Rattle.board.specs.declared.Net.{Net}
 use Rattle.board.specs.declared.Row.{Row}
 use Rattle.board.specs.declared.Shape.{Shape}
-use Rattle.board.specs.declared.Shape.the-variants.{Plain, Stretched}
 use Rattle.board.specs.declared.Track.{Track}
-use Rattle.board.specs.Length.{width, span}
 use Rattle.board.specs.Placement.{placementAt}
 use Rattle.layout.specs.declared.Point.{Point}
 use Rattle.layout.specs.Tree.{opens, track, loose, closes}
 use Rattle.layout.specs.LayoutText.{pointsThen, lineText}
-use Rattle.layout.specs.Drawing.{at, samePoint, distinctFrom, viaColumn, wireColumn, nearRow, farRow, corners, pointsOn, wireOf}
-use Rattle.writer.specs.Lines.{endedLine, headText, pointText, nextText, pathText, pinText, plainPath, stretchedPath, pointsText, wireLine}
+use Rattle.layout.specs.Drawing.{at, samePoint, distinctFrom, corners, pointsOn, wireOf}
+use Rattle.wirepoints.specs.Points.{pointText, nextText, pathText, pinText, pointsText}
+use Rattle.writer.specs.Lines.{endedLine, headText, wireLine}
+
+pub head-parts : (i n : ℕ) → headText i n ≡ ((32 ∷ 40 ∷ []) ++ wordOf Layout i) ++ (32 ∷ digits n)
+unfolding headText
+head-parts i n = simp append-assoc
+
+pub head-length : (i n : ℕ) → length (headText i n) ≡ 3 + length (wordOf Layout i) + length (digits n)
+unfolding headText
+head-length i n = simp length-append (omega arith)
 
 pub opening-parts : endedLine opens ≡ ((40 ∷ []) ++ wordOf Layout 0) ++ (10 ∷ [])
 unfolding lineText wordOf
@@ -64,26 +71,6 @@ wire-parts board t net shape top =
     ap (λ (l : List ℕ). 32 ∷ 40 ∷ (wireWord ++ (32 ∷ l)))
     (tail-parts (digits (net .number)) (pointsText board t net shape top) _ (wire-points board t net shape top (41 ∷ [])))
 
--- ---- the points of a placement by its shape
-
-pub plain-points : (board : Board) (t : Track) (net : Net) (top : Row) →
-    pointsText board t net Plain top ≡ pinText (net .left .0) (plainPath (2 * t .0 - 1) (width board) (net .left .0) (net .right .0))
-unfolding corners viaColumn
-plain-points board t net top = refl
-
--- the rows of the stretched part: from the top down with L < R, else from the bottom up
-pub down-points : (board : Board) (t : Track) (net : Net) (e : ℕ) (top : Row) → 1 ≤ t .0 → net .left .0 < net .right .0 →
-    pointsText board t net (Stretched e) top ≡
-    pinText (net .left .0) (stretchedPath (2 * t .0 - 1) (width board) (net .left .0) (net .right .0) (top .0) (top .0 + span net + e))
-unfolding corners viaColumn wireColumn nearRow farRow
-down-points board t net e top h l =
-    let c : 2 * t .0 - 1 + 1 ≡ 2 * t .0 = omega arith in
-    rw (lt-ltb (net .left .0) (net .right .0) l, c)
-
-pub up-points : (board : Board) (t : Track) (net : Net) (e : ℕ) (top : Row) → 1 ≤ t .0 → net .right .0 ≤ net .left .0 →
-    pointsText board t net (Stretched e) top ≡
-    pinText (net .left .0) (stretchedPath (2 * t .0 - 1) (width board) (net .left .0) (net .right .0) (top .0 + span net + e) (top .0))
-unfolding corners viaColumn wireColumn nearRow farRow
-up-points board t net e top h l =
-    let c : 2 * t .0 - 1 + 1 ≡ 2 * t .0 = omega arith in
-    rw (le-ltb (net .left .0) (net .right .0) l, c)
+-- what stands from place 0 on stands at the start
+pub from-start : {w s t : List ℕ} {r : ℕ} → WrittenAt 0 w s t r → Written w s t r
+from-start v = record { used = omega (arith, v .next); bytes = v .bytes }

@@ -5,14 +5,14 @@ use borrow.Author.Needs.{needs}
 use Rattle.blockmap.proofs.with_block_on.Statement.{statement}
 use Rattle.blockmap.proofs.with_block_on.Tie as tie
 
-with-block-requires : tie.Need-with-block-requires
-with-block-requires c κs = search needs
+with-rows-of-requires : tie.Need-with-rows-of-requires
+with-rows-of-requires c κs = search needs
 
 returns : tie.Need-returns
 unfolding closesRow
 returns c k =
     let a = c .before .before .before .before .args in
-    rw (eq-eqb (a .block .track .0) (a .track .0) (c .before .if1 .taken)) (c .with-block .ensures k)
+    rw (eq-eqb (a .block .track .0) (a .track .0) (c .before .if1 .taken)) (c .with-rows-of .ensures k)
 
 returns-2 : tie.Need-returns-2
 unfolding closesRow
@@ -21,4 +21,4 @@ returns-2 c k =
     rw (ne-eqb (a .block .track .0) (a .track .0) (c .if1 .left))
 
 pub with-block-on-spec : {M : Type 1} → statement M
-with-block-on-spec = tie.close (tie.spec with-block-requires returns returns-2)
+with-block-on-spec = tie.close (tie.spec with-rows-of-requires returns returns-2)

@@ -5,7 +5,7 @@ use denote.Ref.{now}
 use Rattle.lines.specs.Places.{scan}
 use Rattle.lines.proofs.Scans.{scan-here, scan-later, scan-end}
 use Rattle.texts.specs.Ends.{endsText}
-use Prim.Native.Nat.{_≤_, _-_}
+use Prim.Native.Nat.{_≤_, _-_, max}
 use mathlib.Core.Path.{_≡_}
 use native.Mathlib.Omega.{arith}
 use borrow.Author.Needs.{needs}
@@ -14,7 +14,7 @@ use Rattle.texts.proofs.text_end.Statement.{statement}
 use Rattle.texts.proofs.text_end.Tie as tie
 
 abbrev Inv-loop : tie.InvT-loop
-Inv-loop s from i₀ i = (from ≤ i) × (i ≤ length s) × (scan endsText s from ≡ scan endsText s i)
+Inv-loop s from i₀ i = (from ≤ i) × (i ≤ max from (length s)) × (scan endsText s from ≡ scan endsText s i)
 
 abbrev μ-loop : tie.MeasureT-loop
 μ-loop s from i₀ i = length s - i

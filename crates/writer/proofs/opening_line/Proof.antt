@@ -2,8 +2,7 @@
 use mathlib.Core.List.{[], _∷_, _++_}
 use native.Mathlib.Omega.{arith}
 use Rattle.text.proofs.Writing.{lengths, kept-at, chain-at}
-use Rattle.writer.proofs.Parts.{from-start}
-use Rattle.writer.proofs.Lines.{opening-parts}
+use Rattle.writer.proofs.Lines.{from-start, opening-parts}
 use borrow.Author.Needs.{needs}
 use Rattle.writer.proofs.opening_line.Statement.{statement}
 use Rattle.writer.proofs.opening_line.Tie as tie

@@ -2,7 +2,7 @@
 use mathlib.Core.List.{[], _∷_, _++_}
 use native.Mathlib.Omega.{arith}
 use Rattle.text.proofs.Writing.{lengths, kept-at, chain-at}
-use Rattle.writer.proofs.Parts.{head-parts, head-length}
+use Rattle.writer.proofs.Lines.{head-parts, head-length}
 use borrow.Author.Needs.{needs}
 use Rattle.writer.proofs.put_head.Statement.{statement}
 use Rattle.writer.proofs.put_head.Tie as tie

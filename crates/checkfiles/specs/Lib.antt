@@ -1,0 +1,2 @@
+-- What is promised of the files that are checked.
+pub mod FileTexts

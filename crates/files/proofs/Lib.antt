@@ -1,0 +1,2 @@
+-- Laws of a file that is read.
+pub mod Reading

@@ -1,0 +1,2 @@
+-- What is promised of a file that is read.
+pub mod Unopened

@@ -1,0 +1,2 @@
+-- The laws of gathering the candidates, net after net.
+pub mod Gathering

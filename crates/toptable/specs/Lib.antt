@@ -1,0 +1,2 @@
+-- The table of a track.
+pub mod TopsTable

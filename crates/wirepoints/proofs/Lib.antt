@@ -1,0 +1,2 @@
+-- Laws of the points of a wire.
+pub mod Parts

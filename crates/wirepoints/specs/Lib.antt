@@ -1,0 +1,2 @@
+-- The points of a wire, written.
+pub mod Points

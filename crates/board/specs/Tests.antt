@@ -54,9 +54,9 @@ clearRows job t row (suc m) = not (blocked job t row) && clearRows job t (suc ro
 unfoldable pub isClear : Job → ℕ → Placement → Bool
 isClear job t p = clearRows job t (p .top) (bottom p + 1 - p .top)
 
--- the net stands on an earlier track, where `earlier` has the numbers of the nets that do
+-- the number of the net is among these: those of the nets on earlier tracks, or of the lines above
 unfoldable pub isOn : List ℕ → Net → Bool
-isOn earlier n = anyOf (eqb (n .number)) earlier
+isOn numbers n = anyOf (eqb (n .number)) numbers
 
 -- m is another net than n, and its left row is n's right row: m precedes n
 unfoldable pub isBefore : Net → Net → Bool

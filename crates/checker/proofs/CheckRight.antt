@@ -22,7 +22,7 @@ use Rattle.drc.proofs.FirstBroken.{judge-breach, judge-first}
 use Rattle.drc.proofs.JudgeSound.{judge-sound, sound-unbroken}
 use Rattle.checker.specs.declared.CheckAnswer.{CheckAnswer}
 use Rattle.checker.specs.declared.CheckAnswer.the-variants.{Refused, LayoutTooLong, Passes, Broken}
-use Rattle.checker.specs.Answers.{verdictAnswer, checkAnswer}
+use Rattle.checker.specs.Answers.{checkValues, verdictValues, documentVerdict, verdictAnswer, checkAnswer}
 use Rattle.checker.specs.RightVerdict.{Faultless, jobHeld, FirstBreach, RightVerdict}
 
 module _ (job layout : List ℕ) where
@@ -124,6 +124,18 @@ module _ (job layout : List ℕ) where
   pub check-right : RightVerdict job layout (checkAnswer (readJob job) layout)
   check-right = right-where (checkAnswer (readJob job) layout) (answer-holds (readJob job) refl)
 
+  -- the answer has the document's number, word and line
+  values-of : (v : Verdict) → checkValues (verdictAnswer v) ≡ verdictValues v
+  unfolding verdictAnswer verdictValues
+  values-of sound-text = refl
+  values-of (broken-at l) = refl
+
+  values-as : (y : Read) → checkValues (checkAnswer y layout) ≡ documentVerdict y layout
+  unfolding checkAnswer documentVerdict
+  values-as (refused o) = refl
+  values-as (accepted j) = by-test (leb (length layout) 64000) (λ t. rw t (values-of (judge j layout))) (λ t. rw t)
+
   -- and of an answer that is given
-  pub right-verdict : (a : CheckAnswer) → a ≡ checkAnswer (readJob job) layout → (a ≡ checkAnswer (readJob job) layout) × RightVerdict job layout a
-  right-verdict a e = (e, subst (RightVerdict job layout) (sym e) check-right)
+  pub right-verdict : (a : CheckAnswer) → a ≡ checkAnswer (readJob job) layout →
+      (a ≡ checkAnswer (readJob job) layout) × ((checkValues a ≡ documentVerdict (readJob job) layout) × RightVerdict job layout a)
+  right-verdict a e = (e, (ap checkValues e ∙ values-as (readJob job), subst (RightVerdict job layout) (sym e) check-right))

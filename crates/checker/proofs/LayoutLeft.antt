@@ -63,7 +63,7 @@ goes-on job finished j stands k e = let z : _≡_ {A = ℕ} 2 3 = sym (k .0) ∙
 
 -- the verdict stands
 decided : (job : Job) (y : PassStep) (j : LinesJudged) (stands : List ℕ) (f : PassState → Verdict) → KeepsStep job y j stands → j .stage ≡ 3 →
-    afterStep y f ≡ broken-at (j .fault)
+    afterStep y f ≡ broken-at (j .breach)
 unfolding afterStep
 decided job (passes-on st) j stands f k e = absurd (goes-on job st j stands k e)
 decided job (decides v) j stands f k e = k .1
@@ -133,7 +133,7 @@ module _ (job : Job) (s : List ℕ) (j : LinesJudged) (stands words : List ℕ) 
         w .rest ∙ rw (lines-ahead s p from to n (sym (seen .line)), r, q)
 
     module _ (i : LinesJudged) (after : List ℕ) (k : KeepsStep job led i after) where
-      pub left-broken : i .stage ≡ 3 → passOver job s ≡ broken-at (i .fault)
+      pub left-broken : i .stage ≡ 3 → passOver job s ≡ broken-at (i .breach)
       left-broken z = turn ∙ decided job led i after _ k z
 
       pub left-more : (words′ : List ℕ) → (i .stage ≡ 3 → ⊥) → JudgedInRange (p .passed + 1) i → MapIs job (i .track) words′ → LayoutLeft job s i after words′ n
@@ -185,6 +185,6 @@ early-end job (running m) j stands n k d = refl
 early-end job finished j stands n k d = absurd (d (k .0))
 
 pub ends-early : (job : Job) (st : PassState) (j : LinesJudged) (stands : List ℕ) (n : ℕ) → KeepsState job st j stands → (j .stage ≡ 2 → ⊥) →
-    Is.Broken (closedOf j n .fault) ≡ verdictAnswer (passEnd n st)
+    Is.Broken (closedOf j n .breach) ≡ verdictAnswer (passEnd n st)
 unfolding verdictAnswer
 ends-early job st j stands n k d = ap verdictAnswer (sym (early-end job st j stands n k d ∙ closes-ill-formed job n st j stands k))

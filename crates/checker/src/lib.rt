@@ -16,7 +16,7 @@ ghost use Rattle.drc.specs.Judge.{judge};
 ghost use Rattle.drc.specs.Pass.{PassState, passEnd};
 ghost use Rattle.judging.specs.Judged.{KeepsState};
 ghost use Rattle.layoutsteps.specs.Found.{NetTables};
-ghost use Rattle.checker.specs.Answers.{checkValues, verdictAnswer, checkAnswer};
+ghost use Rattle.checker.specs.Answers.{checkValues, verdictAnswer, documentVerdict, checkAnswer};
 ghost use Rattle.checker.specs.RightVerdict.{RightVerdict};
 
 // The answer of check.
@@ -70,15 +70,15 @@ pub fn check_line(answer: CheckAnswer) -> usize
 fn finish(m: LinesJudged, line: usize) -> CheckAnswer
     ensures { λ r. ⌜ ((job : Job) (st : PassState) (stands : List ℕ) → KeepsState job st m stands → r ≡ verdictAnswer (passEnd line st)) ⌝ }
 {
-    if m.stage == 2 {
+    if m.stage == judging::FINISHED {
         return CheckAnswer::Passes;
     }
     let closed = judging::closed(m, line);
-    CheckAnswer::Broken(closed.fault)
+    CheckAnswer::Broken(closed.breach)
 }
 
 // The verdict on a layout text, line by line, where the numbers of the job's nets and the net that precedes each net are worked out. The
-// job goes by value once a track line; for any other line only its net does.
+// job goes by value where the track changes; for any other line only its net does.
 fn judge_lines<'a>(
     job: StoredJob,
     numbers: &'a [usize; 512],
@@ -107,8 +107,8 @@ fn judge_lines<'a>(
         let above = m.track;
         let s = &text[from..to];
         m = layoutsteps::take_line(board, count, net, &map.words, &mut stands, m, line, form, s);
-        if m.stage == 3 {
-            return CheckAnswer::Broken(m.fault);
+        if m.stage == judging::DECIDED {
+            return CheckAnswer::Broken(m.breach);
         }
         if m.track == above {
             continue;
@@ -120,6 +120,7 @@ fn judge_lines<'a>(
 // Checks a layout text for a job: the job first, then the length of the text, then its lines.
 pub fn check(job: &[u8], layout: &[u8]) -> CheckAnswer
     ensures { λ r. ⌜ r ≡ checkAnswer (readJob (now (job .entry))) (now (layout .entry)) ⌝ }
+    ensures { λ r. ⌜ checkValues r ≡ documentVerdict (readJob (now (job .entry))) (now (layout .entry)) ⌝ }
     ensures { λ r. ⌜ RightVerdict (now (job .entry)) (now (layout .entry)) r ⌝ }
 {
     let answer = reader::read(job);

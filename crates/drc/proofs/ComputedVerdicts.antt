@@ -18,7 +18,7 @@ use Rattle.sound.specs.Wires.{worthBy, worthOf}
 use Rattle.drc.specs.Standing.{isEnded, readEach, linesRead, withLine}
 use Rattle.drc.specs.Covers.{samePoints, isOnBoard, drawnOf, drawnFrom, drawnBy, trackDrawn, coversOf}
 use Rattle.drc.specs.Judge.{noneLoose, endsTrack, isInTurn, isOpening, isInPlace, isTrueSum, isBelow, isSoundPlace, isSoundWire, isUnlined, isSoundLoose, keepsRules, Verdict, sound-text, broken-at, atTextEnd, judgeFrom, judge}
-use Rattle.drc.specs.Pass.{isNextWire, lowestOf, faultAfter, closedAt, unlessFault, judgedTrack, orBroken, passInTurn, passLine, passIllFormed, passStep, passEnd, afterStep, passFrom, passOver}
+use Rattle.drc.specs.Pass.{isNextWire, lowestOf, breachAfter, closedAt, unlessBreach, judgedTrack, orBroken, passInTurn, passLine, passIllFormed, passStep, passEnd, afterStep, passFrom, passOver}
 use Rattle.drc.specs.LongNet.{longJob}
 
 -- the verdict on a text. To unfold this is to unfold all that it computes with
@@ -28,7 +28,7 @@ computed job text = judge job text
 
 -- the same of the pass
 unfoldable passed : Job → List ℕ → Verdict
-unfolding computed passOver passFrom afterStep passEnd passStep passIllFormed passLine passInTurn orBroken judgedTrack unlessFault closedAt faultAfter lowestOf isNextWire
+unfolding computed passOver passFrom afterStep passEnd passStep passIllFormed passLine passInTurn orBroken judgedTrack unlessBreach closedAt breachAfter lowestOf isNextWire
 passed job text = passOver job text
 
 -- the text that document 01 prints

@@ -18,7 +18,7 @@ use Rattle.sound.specs.Wires.{worthOf, wireNumbers}
 use Rattle.drc.specs.Standing.{linesRead, Above, beforeLayout, inLayout, behindLayout, withLine, numbersAbove}
 use Rattle.drc.specs.Covers.{drawnBy}
 use Rattle.drc.specs.Judge.{noneLoose, endsTrack, isInTurn, isOpening, isInPlace, isTrueSum, isSoundWire, isUnlined, isSoundLoose, keepsRules, Verdict, broken-at, atTextEnd, judgeFrom, judge}
-use Rattle.drc.specs.Pass.{Summary, emptySummary, addTrack, isNextWire, faultAfter, addWire, addLoose, PassState, unbegun, running, finished, PassStep, passes-on, decides, closedAt, unlessFault, judgedTrack, orBroken, passInTurn, passLine, passIllFormed, passStep, passEnd, afterStep, passFrom, passOver}
+use Rattle.drc.specs.Pass.{Summary, emptySummary, addTrack, isNextWire, breachAfter, addWire, addLoose, PassState, unbegun, running, finished, PassStep, passes-on, decides, closedAt, unlessBreach, judgedTrack, orBroken, passInTurn, passLine, passIllFormed, passStep, passEnd, afterStep, passFrom, passOver}
 use Rattle.drc.proofs.InPlace.{no-loose-lines}
 use Rattle.drc.proofs.JudgedTree.{some-loose}
 use Rattle.drc.proofs.Summaries.{SummaryFits, fits-empty, wired-is, fits-track, next-loose, fits-loose, next-wire, fits-wire}
@@ -26,15 +26,15 @@ use Rattle.drc.proofs.Summaries.{SummaryFits, fits-empty, wired-is, fit
 -- ---- the wires of a track end
 
 -- behind a broken wire
-settled-fault : (m : Summary) (l : ℕ) (x : PassStep) (go : PassState → Verdict) → m .fault ≡ some l →
+settled-breach : (m : Summary) (l : ℕ) (x : PassStep) (go : PassState → Verdict) → m .breach ≡ some l →
     afterStep (judgedTrack m x) go ≡ cond (eqb (m .sum) (m .printed)) (broken-at l) (broken-at (m .line))
-unfolding afterStep judgedTrack unlessFault
-settled-fault m l x go f = by-test (eqb (m .sum) (m .printed)) (λ e. rw (e, f)) (λ e. rw e)
+unfolding afterStep judgedTrack unlessBreach
+settled-breach m l x go f = by-test (eqb (m .sum) (m .printed)) (λ e. rw (e, f)) (λ e. rw e)
 
 -- behind none
-settled : (m : Summary) (x : PassStep) (go : PassState → Verdict) → m .fault ≡ none →
+settled : (m : Summary) (x : PassStep) (go : PassState → Verdict) → m .breach ≡ none →
     afterStep (judgedTrack m x) go ≡ cond (eqb (m .sum) (m .printed)) (afterStep x go) (broken-at (m .line))
-unfolding afterStep judgedTrack unlessFault
+unfolding afterStep judgedTrack unlessBreach
 settled m x go f = by-test (eqb (m .sum) (m .printed)) (λ e. rw (e, f)) (λ e. rw e)
 
 after-test : (n : ℕ) (q : Bool) (st : PassState) (go : PassState → Verdict) → afterStep (orBroken n q (passes-on st)) go ≡ cond q (go st) (broken-at n)
@@ -79,28 +79,28 @@ module _ (job : Job) where
 
   -- ---- behind a broken wire, at line l
 
-  abbrev Faulty : List (Option Line) → Type 0
-  Faulty ls = (n l : ℕ) (m : Summary) → m .fault ≡ some l → eqb (m .last) 0 ≡ true → 1 ≤ m .track → m .track ≤ K →
+  abbrev BreachAbove : List (Option Line) → Type 0
+  BreachAbove ls = (n l : ℕ) (m : Summary) → m .breach ≡ some l → eqb (m .last) 0 ≡ true → 1 ≤ m .track → m .track ≤ K →
       passFrom job n (running m) ls ≡ cond (isTrueSum job (m .track) (m .printed) (m .sum) ls) (broken-at l) (broken-at (m .line))
 
-  faulty-end : (n l : ℕ) (m : Summary) (c : Bool) (x : PassStep) (go : PassState → Verdict) → m .fault ≡ some l →
-      afterStep (cond c (judgedTrack m x) (decides (closedAt (m .fault) n))) go ≡
+  breach-above-end : (n l : ℕ) (m : Summary) (c : Bool) (x : PassStep) (go : PassState → Verdict) → m .breach ≡ some l →
+      afterStep (cond c (judgedTrack m x) (decides (closedAt (m .breach) n))) go ≡
       cond (not c || eqb (m .sum) (m .printed)) (broken-at l) (broken-at (m .line))
   unfolding afterStep closedAt
-  faulty-end n l m true x go f = settled-fault m l x go f
-  faulty-end n l m false x go f = rw f
+  breach-above-end n l m true x go f = settled-breach m l x go f
+  breach-above-end n l m false x go f = rw f
 
-  faulty : (ls : List (Option Line)) → Faulty ls
-  unfolding passFrom passEnd passStep passIllFormed passLine passInTurn isInTurn isTrueSum closedAt afterStep faultAfter
-  faulty [] n l m f z o b = rw f
-  faulty (none ∷ ls) n l m f z o b = rw f
-  faulty (some opens ∷ ls) n l m f z o b = rw f
-  faulty (some (track u s) ∷ ls) n l m f z o b = rw z (faulty-end n l m (endsTrack job (m .track) (track u s)) _ (goesOn n ls) f)
-  faulty (some (wire w) ∷ ls) n l m f z o b =
+  breach-above : (ls : List (Option Line)) → BreachAbove ls
+  unfolding passFrom passEnd passStep passIllFormed passLine passInTurn isInTurn isTrueSum closedAt afterStep breachAfter
+  breach-above [] n l m f z o b = rw f
+  breach-above (none ∷ ls) n l m f z o b = rw f
+  breach-above (some opens ∷ ls) n l m f z o b = rw f
+  breach-above (some (track u s) ∷ ls) n l m f z o b = rw z (breach-above-end n l m (endsTrack job (m .track) (track u s)) _ (goesOn n ls) f)
+  breach-above (some (wire w) ∷ ls) n l m f z o b =
       rw (z, le-leb 1 (m .track) o, le-leb (m .track) K b)
-      (faulty ls (suc n) l (addWire job n w (drawnBy job (m .track) w) m) (rw f) z o b)
-  faulty (some (loose k) ∷ ls) n l m f z o b = faulty-end n l m (endsTrack job (m .track) (loose k)) _ (goesOn n ls) f
-  faulty (some closes ∷ ls) n l m f z o b = faulty-end n l m (endsTrack job (m .track) closes) _ (goesOn n ls) f
+      (breach-above ls (suc n) l (addWire job n w (drawnBy job (m .track) w) m) (rw f) z o b)
+  breach-above (some (loose k) ∷ ls) n l m f z o b = breach-above-end n l m (endsTrack job (m .track) (loose k)) _ (goesOn n ls) f
+  breach-above (some closes ∷ ls) n l m f z o b = breach-above-end n l m (endsTrack job (m .track) closes) _ (goesOn n ls) f
 
   -- ---- behind the closing line
 
@@ -112,16 +112,16 @@ module _ (job : Job) where
 
   -- ---- while no line above is broken
 
-  ended-step : (n : ℕ) (m : Summary) (c q : Bool) (st : PassState) (go : PassState → Verdict) → m .fault ≡ none →
-      afterStep (cond c (judgedTrack m (orBroken n q (passes-on st))) (decides (closedAt (m .fault) n))) go ≡
+  ended-step : (n : ℕ) (m : Summary) (c q : Bool) (st : PassState) (go : PassState → Verdict) → m .breach ≡ none →
+      afterStep (cond c (judgedTrack m (orBroken n q (passes-on st))) (decides (closedAt (m .breach) n))) go ≡
       cond c (cond (eqb (m .sum) (m .printed)) (cond q (go st) (broken-at n)) (broken-at (m .line))) (broken-at n)
   unfolding afterStep closedAt
   ended-step n m true q st go f =
       settled m (orBroken n q (passes-on st)) go f ∙ ap (λ u. cond (eqb (m .sum) (m .printed)) u (broken-at (m .line))) (after-test n q st go)
   ended-step n m false q st go f = rw f
 
-  next-step : (n : ℕ) (m : Summary) (c : Bool) (st : PassState) (go : PassState → Verdict) → m .fault ≡ none →
-      afterStep (cond c (judgedTrack m (passes-on st)) (decides (closedAt (m .fault) n))) go ≡
+  next-step : (n : ℕ) (m : Summary) (c : Bool) (st : PassState) (go : PassState → Verdict) → m .breach ≡ none →
+      afterStep (cond c (judgedTrack m (passes-on st)) (decides (closedAt (m .breach) n))) go ≡
       cond c (cond (eqb (m .sum) (m .printed)) (go st) (broken-at (m .line))) (broken-at n)
   unfolding afterStep closedAt
   next-step n m true st go f = settled m (passes-on st) go f
@@ -162,7 +162,7 @@ module _ (job : Job) where
   unfolding passFrom passStep passLine passInTurn judgeFrom isInPlace isInTurn keepsRules withLine isTrueSum
   waiting-track u s ls g n ws m f o b =
       rw (f .loose-is, none-last ws m f)
-      (next-step n m (endsTrack job (m .track) (track u s)) (running (addTrack n u s m)) (goesOn n ls) (f .no-fault) ∙
+      (next-step n m (endsTrack job (m .track) (track u s)) (running (addTrack n u s m)) (goesOn n ls) (f .no-breach) ∙
       next-waiting (endsTrack job (m .track) (track u s)) (eqb (m .sum) (m .printed)) (isTrueSum job u s 0 ls) _ _ (broken-at n) (broken-at (m .line))
       (under-next u s ls g n ws m f))
 
@@ -170,7 +170,7 @@ module _ (job : Job) where
   unfolding passFrom passStep passLine passInTurn judgeFrom isInPlace isInTurn keepsRules withLine
   clean-track u s ls g n ws ns m f h z =
       rw (← f .loose-is)
-      (next-step n m (noneLoose ns && endsTrack job (m .track) (track u s)) (running (addTrack n u s m)) (goesOn n ls) (f .no-fault) ∙
+      (next-step n m (noneLoose ns && endsTrack job (m .track) (track u s)) (running (addTrack n u s m)) (goesOn n ls) (f .no-breach) ∙
       next-clean (noneLoose ns && endsTrack job (m .track) (track u s)) (eqb (m .sum) (m .printed)) (isTrueSum job u s 0 ls) _ _ (broken-at n) (broken-at (m .line)) h
       (λ c.
       let d = and-split (noneLoose ns) (endsTrack job (m .track) (track u s)) c in
@@ -187,7 +187,7 @@ module _ (job : Job) where
       let c = endsTrack job (m .track) closes in
       let q = allOf (isOn (m .lined)) (job .nets) in
       rw (← f .lined-is)
-      (ended-step n m c q finished (goesOn n ls) (f .no-fault) ∙
+      (ended-step n m c q finished (goesOn n ls) (f .no-breach) ∙
       ended-waiting c (eqb (m .sum) (m .printed)) q _ _ (broken-at n) (broken-at (m .line)) (closing-rest ls n c (eqb (m .sum) (m .printed)) q))
 
   clean-closes : (ls : List (Option Line)) → Clean (some closes ∷ ls)
@@ -196,18 +196,18 @@ module _ (job : Job) where
       let c = endsTrack job (m .track) closes in
       let q = allOf (isOn (m .lined)) (job .nets) in
       rw (← f .lined-is)
-      (ended-step n m c q finished (goesOn n ls) (f .no-fault) ∙
+      (ended-step n m c q finished (goesOn n ls) (f .no-breach) ∙
       ended-clean c (eqb (m .sum) (m .printed)) q _ _ (broken-at n) (broken-at (m .line)) h (closing-rest ls n c (eqb (m .sum) (m .printed)) q))
 
   -- a wire where none can stand
   clean-wire : (w : Wire) (ls : List (Option Line)) → Clean (some (wire w) ∷ ls)
   unfolding passFrom passStep passLine judgeFrom isInPlace afterStep closedAt
-  clean-wire w ls n ws ns m f h z = rw (f .loose-is, z w, f .no-fault)
+  clean-wire w ls n ws ns m f h z = rw (f .loose-is, z w, f .no-breach)
 
   module _ (a : AcceptedJob job) where
     -- a wire under a track line
     waiting-wire : (w : Wire) (ls : List (Option Line)) → Waiting ls → Waiting (some (wire w) ∷ ls)
-    unfolding passFrom passStep passLine passInTurn judgeFrom isInPlace isInTurn keepsRules withLine isTrueSum afterStep faultAfter
+    unfolding passFrom passStep passLine passInTurn judgeFrom isInPlace isInTurn keepsRules withLine isTrueSum afterStep breachAfter
     waiting-wire w ls g n ws m f o b =
         let d = drawnBy job (m .track) w in
         let same = next-wire job a ws m w f o b in
@@ -218,7 +218,7 @@ module _ (job : Job) where
         rw s (g (suc n) (ws ++ (w ∷ [])) (addWire job n w d m) (fits-wire job a ws m w f o b n e) o b))
         (λ e.
         let s : isSoundWire job (m .track) (m .earlier) ws d ≡ false = sym same ∙ e in
-        rw s (faulty ls (suc n) n (addWire job n w d m) (rw (e, f .no-fault)) (none-last ws m f) o b)))
+        rw s (breach-above ls (suc n) n (addWire job n w d m) (rw (e, f .no-breach)) (none-last ws m f) o b)))
 
     -- a loose line
     loose-rest : (k : ℕ) (ls : List (Option Line)) → Clean ls → (n : ℕ) (ws : List Wire) (ns : List ℕ) (m : Summary) → SummaryFits job ws ns m →
@@ -236,7 +236,7 @@ module _ (job : Job) where
         let c = endsTrack job (m .track) (loose k) in
         let q = isUnlined job (m .lined) k && ltb (m .last) k in
         rw (← next-loose job a ws [] m k f)
-        (ended-step n m c q (running (addLoose k m)) (goesOn n ls) (f .no-fault) ∙
+        (ended-step n m c q (running (addLoose k m)) (goesOn n ls) (f .no-breach) ∙
         ended-waiting c (eqb (m .sum) (m .printed)) q _ _ (broken-at n) (broken-at (m .line)) (loose-rest k ls g n ws [] m f))
 
     clean-loose : (k : ℕ) (ls : List (Option Line)) → Clean ls → Clean (some (loose k) ∷ ls)
@@ -245,15 +245,15 @@ module _ (job : Job) where
         let c = endsTrack job (m .track) (loose k) in
         let q = isUnlined job (m .lined) k && ltb (m .last) k in
         rw (← next-loose job a ws ns m k f)
-        (ended-step n m c q (running (addLoose k m)) (goesOn n ls) (f .no-fault) ∙
+        (ended-step n m c q (running (addLoose k m)) (goesOn n ls) (f .no-breach) ∙
         ended-clean c (eqb (m .sum) (m .printed)) q _ _ (broken-at n) (broken-at (m .line)) h (loose-rest k ls g n ws ns m f))
 
     -- every line
     both : (ls : List (Option Line)) → Clean ls × Waiting ls
     unfolding passFrom passEnd passStep passIllFormed passLine closedAt afterStep judgeFrom atTextEnd isInPlace isInTurn isTrueSum
-    both [] = (λ n ws ns m f h z. rw (f .no-fault), λ n ws m f o b. rw (f .no-fault))
-    both (none ∷ ls) = (λ n ws ns m f h z. rw (f .no-fault), λ n ws m f o b. rw (f .no-fault))
-    both (some opens ∷ ls) = (λ n ws ns m f h z. rw (f .no-fault), λ n ws m f o b. rw (f .no-fault))
+    both [] = (λ n ws ns m f h z. rw (f .no-breach), λ n ws m f o b. rw (f .no-breach))
+    both (none ∷ ls) = (λ n ws ns m f h z. rw (f .no-breach), λ n ws m f o b. rw (f .no-breach))
+    both (some opens ∷ ls) = (λ n ws ns m f h z. rw (f .no-breach), λ n ws m f o b. rw (f .no-breach))
     both (some (track u s) ∷ ls) = (clean-track u s ls (both ls .1), waiting-track u s ls (both ls .1))
     both (some (wire w) ∷ ls) = (clean-wire w ls, waiting-wire w ls (both ls .1))
     both (some (loose k) ∷ ls) = (clean-loose k ls (both ls .0), waiting-loose k ls (both ls .0))

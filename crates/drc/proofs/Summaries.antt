@@ -19,7 +19,7 @@ use Rattle.sound.specs.Wires.{wireNumbers}
 use Rattle.drc.specs.Standing.{Above, inLayout, numbersAbove}
 use Rattle.drc.specs.Covers.{drawnBy, coversOf}
 use Rattle.drc.specs.Judge.{noneLoose, isBelow, isSoundPlace, isSoundWire, isUnlined, isSoundLoose}
-use Rattle.drc.specs.Pass.{Summary, emptySummary, addTrack, isNextWire, lowestOf, faultAfter, addWire, addLoose}
+use Rattle.drc.specs.Pass.{Summary, emptySummary, addTrack, isNextWire, lowestOf, breachAfter, addWire, addLoose}
 use Rattle.drc.proofs.Drawings.{drawn-some, covers-of}
 use Rattle.drc.proofs.JudgedTree.{some-loose}
 
@@ -37,7 +37,7 @@ module _ (job : Job) where
     pub lowest-is : (p : Placement) → 1 ≤ p .top → allOf (λ v. isBelow p (coversOf job v)) ws ≡ ltb (m .lowest) (p .top)
     pub last-is : (k : ℕ) → 1 ≤ k → allOf (λ j. ltb j k) ns ≡ ltb (m .last) k
     pub loose-is : noneLoose ns ≡ eqb (m .last) 0
-    pub no-fault : m .fault ≡ none
+    pub no-breach : m .breach ≡ none
 
   pub fits-empty : SummaryFits [] [] emptySummary
   unfolding allOf noneLoose
@@ -46,7 +46,7 @@ module _ (job : Job) where
     lowest-is = λ p h. sym (lt-ltb 0 (p .top) h);
     last-is = λ k h. sym (lt-ltb 0 k h);
     loose-is = refl;
-    no-fault = refl;
+    no-breach = refl;
   }
 
   -- the numbers of the wires above, where no loose line stands above
@@ -60,7 +60,7 @@ module _ (job : Job) where
     lowest-is = λ p h. sym (lt-ltb 0 (p .top) h);
     last-is = f .last-is;
     loose-is = f .loose-is;
-    no-fault = refl;
+    no-breach = refl;
   }
 
   module _ (a : AcceptedJob job) where
@@ -95,7 +95,7 @@ module _ (job : Job) where
           lowest-is = f .lowest-is;
           last-is = λ i l. rw (allOf-append (λ j. ltb j i) ns (k ∷ []), f .last-is i l) (higher-bound (m .last) k i (ltb-true (m .last) k (s .1)));
           loose-is = some-loose ns k ∙ sym (ne-eqb k 0 (λ (z : k ≡ 0). omega arith));
-          no-fault = f .no-fault;
+          no-breach = f .no-breach;
         }
 
     -- ---- a wire
@@ -111,7 +111,7 @@ module _ (job : Job) where
           rw (e, wired-is ws m f, f .lowest-is p (d .from-one)))
 
       pub fits-wire : (n : ℕ) → isNextWire job m (drawnBy job (m .track) w) ≡ true → SummaryFits (ws ++ (w ∷ [])) [] (addWire job n w (drawnBy job (m .track) w) m)
-      unfolding isNextWire lowestOf faultAfter allOf isBelow
+      unfolding isNextWire lowestOf breachAfter allOf isBelow
       fits-wire n h =
           by-option (drawnBy job (m .track) w)
           (λ e. absurd (true≢false (sym (rw e at h))))
@@ -130,5 +130,5 @@ module _ (job : Job) where
                 (higher-bound (m .lowest) (bottom p) (q .top) lower-still);
             last-is = f .last-is;
             loose-is = f .loose-is;
-            no-fault = rw (f .no-fault, h′);
+            no-breach = rw (f .no-breach, h′);
           }))

@@ -76,7 +76,7 @@ pub data LooseBreach (job : Job) (wired ns : List ℕ) (k : ℕ) : Type 0 where
 
 -- ---- any line
 
--- line x of the form, which can stand below a and has the lines ls below it, breaks a rule
+-- line x of the form, below a and with the lines ls below it, breaks a rule
 pub data LineBreach (job : Job) : Above → Line → List (Option Line) → Type 0 where
   -- a false sum: at its track line
   false-sum : {t u s : ℕ} {earlier ns : List ℕ} {ws : List Wire} {ls : List (Option Line)} →
@@ -93,8 +93,9 @@ pub data LineBreach (job : Job) : Above → Line → List (Option Line) → Type
 
 -- `BreachFrom job n a ls l`: of the lines ls, which begin with line n and have a above them, line l is broken
 pub data BreachFrom (job : Job) : ℕ → Above → List (Option Line) → ℕ → Type 0 where
-  -- a rule is broken at a line of the form: the later of two lines that share a row, a net or the wrong order, the wire that another net
-  -- precedes, the track line of a false sum, the closing line if a net is missing
+  -- a rule is broken at a line of the form: a wire that draws no placement which may stand there, a loose line of no net, the later of two
+  -- lines that share a row, a net or the wrong order, the wire that another net precedes, the track line of a false sum, the closing line
+  -- if a net is missing
   at-line : {n : ℕ} {a : Above} {x : Line} {ls : List (Option Line)} → LineBreach job a x ls → BreachFrom job n a (some x ∷ ls) n
   -- the judging goes on past a line of the form that can stand there, broken or not
   further-down : {n l : ℕ} {a : Above} {x : Line} {ls : List (Option Line)} →

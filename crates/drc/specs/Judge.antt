@@ -52,8 +52,8 @@ isInPlace job behindLayout x = false
 
 -- ---- the rules
 
--- the number s of track line t is the sum of its wires, of which `sum` has those above the lines ls; where the line behind the wires is
--- not of the form or cannot stand there, the sum is not judged
+-- the number s of track line t is the sum of its wires, of which `sum` has those above the lines ls; where the text ends behind
+-- the wires, or the line there is not of the form or cannot stand, the sum is not judged
 unfoldable pub isTrueSum : Job → ℕ → ℕ → ℕ → List (Option Line) → Bool
 isTrueSum job t s sum [] = true
 isTrueSum job t s sum (none ∷ ls) = true

@@ -29,36 +29,36 @@ pub record Summary : Type 0 where
   pub earlier : List ℕ
   -- the numbers of all wire and loose lines
   pub lined : List ℕ
-  -- the lowest row that a wire of the track covers, 0 where there is none
+  -- the lowest row of the last wire drawn on the track, 0 where there is none
   pub lowest : ℕ
   -- the number of the last loose line, 0 where there is none
   pub last : ℕ
   -- the line of the first broken wire of the track: it is the verdict, unless the sum is false
-  pub fault : Option ℕ
+  pub breach : Option ℕ
 
 -- what is kept right behind `(layout`
 abbrev pub emptySummary : Summary
-emptySummary = record { track = 0; line = 0; printed = 0; sum = 0; earlier = []; lined = []; lowest = 0; last = 0; fault = none }
+emptySummary = record { track = 0; line = 0; printed = 0; sum = 0; earlier = []; lined = []; lowest = 0; last = 0; breach = none }
 
 -- what is kept behind line n, a line of track u that prints the sum s
 abbrev pub addTrack : ℕ → ℕ → ℕ → Summary → Summary
 addTrack n u s m =
-    record { track = u; line = n; printed = s; sum = 0; earlier = m .lined; lined = m .lined; lowest = 0; last = m .last; fault = none }
+    record { track = u; line = n; printed = s; sum = 0; earlier = m .lined; lined = m .lined; lowest = 0; last = m .last; breach = none }
 
 -- a wire that draws p may stand below the lines kept; one that draws none may not
 unfoldable pub isNextWire : Job → Summary → Option Placement → Bool
 isNextWire job m none = false
 isNextWire job m (some p) = isSoundPlace job (m .track) (m .earlier) (m .lined) p && ltb (m .lowest) (p .top)
 
--- the lowest row that a wire covers, or r if it covers none
+-- the lowest row of a wire that draws a placement, or r if it draws none
 unfoldable pub lowestOf : ℕ → Option Placement → ℕ
 lowestOf r none = r
 lowestOf r (some p) = bottom p
 
 -- the line of the first broken wire, where the wire of line n is the last
-unfoldable pub faultAfter : Option ℕ → ℕ → Bool → Option ℕ
-faultAfter (some l) n passed = some l
-faultAfter none n passed = cond passed none (some n)
+unfoldable pub breachAfter : Option ℕ → ℕ → Bool → Option ℕ
+breachAfter (some l) n passed = some l
+breachAfter none n passed = cond passed none (some n)
 
 -- what is kept behind line n, a wire that draws p: broken or not, it counts by its number
 abbrev pub addWire : Job → ℕ → Wire → Option Placement → Summary → Summary
@@ -72,7 +72,7 @@ addWire job n w p m =
       lined = m .lined ++ (w .number ∷ []);
       lowest = lowestOf (m .lowest) p;
       last = m .last;
-      fault = faultAfter (m .fault) n (isNextWire job m p);
+      breach = breachAfter (m .breach) n (isNextWire job m p);
     }
 
 -- what is kept behind a loose line of number k
@@ -87,7 +87,7 @@ addLoose k m =
       lined = m .lined ++ (k ∷ []);
       lowest = m .lowest;
       last = k;
-      fault = m .fault;
+      breach = m .breach;
     }
 
 -- where a pass stands: before `(layout`, behind it, behind `)`
@@ -107,13 +107,13 @@ closedAt none n = broken-at n
 closedAt (some l) n = broken-at l
 
 -- a broken wire above is the verdict; x where there is none
-unfoldable pub unlessFault : Option ℕ → PassStep → PassStep
-unlessFault none x = x
-unlessFault (some l) x = decides (broken-at l)
+unfoldable pub unlessBreach : Option ℕ → PassStep → PassStep
+unlessBreach none x = x
+unlessBreach (some l) x = decides (broken-at l)
 
 -- where the wires of a track end, its sum is judged, at its track line, then its wires; x where nothing is broken
 unfoldable pub judgedTrack : Summary → PassStep → PassStep
-judgedTrack m x = cond (eqb (m .sum) (m .printed)) (unlessFault (m .fault) x) (decides (broken-at (m .line)))
+judgedTrack m x = cond (eqb (m .sum) (m .printed)) (unlessBreach (m .breach) x) (decides (broken-at (m .line)))
 
 -- x where line n passes its test; otherwise line n is broken
 unfoldable pub orBroken : ℕ → Bool → PassStep → PassStep
@@ -130,13 +130,13 @@ passInTurn job n m closes = judgedTrack m (orBroken n (allOf (isOn (m .lined)) (
 -- the step at line n, which is of the form
 unfoldable pub passLine : Job → ℕ → PassState → Line → PassStep
 passLine job n unbegun x = orBroken n (isOpening x) (passes-on (running emptySummary))
-passLine job n (running m) x = cond (isInTurn job (m .track) (eqb (m .last) 0) x) (passInTurn job n m x) (decides (closedAt (m .fault) n))
+passLine job n (running m) x = cond (isInTurn job (m .track) (eqb (m .last) 0) x) (passInTurn job n m x) (decides (closedAt (m .breach) n))
 passLine job n finished x = decides (broken-at n)
 
 -- the verdict at line n, which is not of the form
 unfoldable pub passIllFormed : ℕ → PassState → Verdict
 passIllFormed n unbegun = broken-at n
-passIllFormed n (running m) = closedAt (m .fault) n
+passIllFormed n (running m) = closedAt (m .breach) n
 passIllFormed n finished = broken-at n
 
 -- one step of the pass: line n as it is read
@@ -147,7 +147,7 @@ passStep job n st (some x) = passLine job n st x
 -- the verdict at the end of the text, where n is the line after the last
 unfoldable pub passEnd : ℕ → PassState → Verdict
 passEnd n unbegun = broken-at n
-passEnd n (running m) = closedAt (m .fault) n
+passEnd n (running m) = closedAt (m .breach) n
 passEnd n finished = sound-text
 
 -- the verdict stands, or the lines below give it

@@ -24,13 +24,13 @@ use Rattle.sound.proofs.Nets.{worth-of}
 use Rattle.candidates.specs.Placed.{indexFrom}
 use Rattle.drc.specs.Covers.{drawnBy}
 use Rattle.drc.specs.Judge.{endsTrack, isInTurn, isOpening, isUnlined}
-use Rattle.drc.specs.Pass.{Summary, addTrack, addWire, addLoose, isNextWire, lowestOf, faultAfter, PassState, unbegun, running, finished, passes-on, orBroken, passInTurn, passLine}
+use Rattle.drc.specs.Pass.{Summary, addTrack, addWire, addLoose, isNextWire, lowestOf, breachAfter, PassState, unbegun, running, finished, passes-on, orBroken, passInTurn, passLine}
 use Rattle.judging.specs.declared.LinesJudged.{LinesJudged}
 use Rattle.judging.specs.declared.NetFound.{NetFound}
-use Rattle.judging.specs.Judged.{faultOf, NetLines, KeepsSummary, KeepsState, KeepsStep, JudgedInRange, LineInRange}
-use Rattle.judging.specs.Values.{isNumbered, allLined, isNextAt, firstFault, brokenOff, closedOf, settledOf, isTrackTurn, isWireTurn, NetIs, MapIs}
-use Rattle.judging.proofs.ValueTests.{closed-here, closed-above, settled-sum, settled-wire, settled-kept, lowest-row, fault-before, fault-still-none, fault-here}
-use Rattle.judging.proofs.Turns.{fault-none, fault-some, canStand, closes-off, settled-off, settled-on}
+use Rattle.judging.specs.Judged.{breachOf, NetLines, KeepsSummary, KeepsState, KeepsStep, JudgedInRange, LineInRange}
+use Rattle.judging.specs.Values.{isNumbered, allLined, isNextAt, firstBreach, brokenOff, closedOf, settledOf, isTrackTurn, isWireTurn, NetIs, MapIs}
+use Rattle.judging.proofs.ValueTests.{closed-here, closed-above, settled-sum, settled-wire, settled-kept, lowest-row, breach-before, breach-still-none, breach-here}
+use Rattle.judging.proofs.Turns.{breach-none, breach-some, canStand, closes-off, settled-off, settled-on}
 use Rattle.judging.proofs.LinedNets.{lined-same}
 use Rattle.judging.proofs.Indexes.{index-number}
 use Rattle.judging.proofs.LinesAdded.{line-added, unlined-same, next-same, next-new}
@@ -42,9 +42,9 @@ off-range n l = record { track-range = omega arith; sum-range = omega arith }
 
 pub closed-range : (n i : ℕ) (j : LinesJudged) → JudgedInRange n (closedOf j i)
 closed-range n i j =
-    by-test (eqb (j .fault) 0)
-    (λ t. rw (closed-here j i (eqb-true (j .fault) 0 t)) (off-range n i))
-    (λ t. rw (closed-above j i (eqb-false (j .fault) 0 t)) (off-range n (j .fault)))
+    by-test (eqb (j .breach) 0)
+    (λ t. rw (closed-here j i (eqb-true (j .breach) 0 t)) (off-range n i))
+    (λ t. rw (closed-above j i (eqb-false (j .breach) 0 t)) (off-range n (j .breach)))
 
 -- what is kept of the lines above, behind a line that adds at most 4,096
 pub kept-range : (n : ℕ) (i j : LinesJudged) → 1 ≤ n → JudgedInRange (n - 1) j → i .track ≡ j .track → i .sum ≤ j .sum + 4096 → JudgedInRange n i
@@ -55,9 +55,9 @@ settled-range n j l r =
     by-test (eqb (j .sum) (j .printed))
     (λ t.
     let e = eqb-true (j .sum) (j .printed) t in
-    by-test (eqb (j .fault) 0)
-    (λ f. rw (settled-kept j e (eqb-true (j .fault) 0 f)) (kept-range n j j l r refl (omega arith)))
-    (λ f. rw (settled-wire j e (eqb-false (j .fault) 0 f)) (off-range n (j .fault))))
+    by-test (eqb (j .breach) 0)
+    (λ f. rw (settled-kept j e (eqb-true (j .breach) 0 f)) (kept-range n j j l r refl (omega arith)))
+    (λ f. rw (settled-wire j e (eqb-false (j .breach) 0 f)) (off-range n (j .breach))))
     (λ t. rw (settled-sum j (eqb-false (j .sum) (j .printed) t)) (off-range n (j .line)))
 
 pub turn-range : (k n u : ℕ) (i j : LinesJudged) → k ≤ 128 → isTrackTurn k j u ≡ true → i .track ≡ u → i .sum ≡ 0 → JudgedInRange n i
@@ -79,11 +79,11 @@ wire-range k j t =
 
 -- behind `(layout`
 abbrev pub opened : LinesJudged
-opened = record { stage = 1; track = 0; line = 0; printed = 0; sum = 0; lowest = 0; last = 0; fault = 0 }
+opened = record { stage = 1; track = 0; line = 0; printed = 0; sum = 0; lowest = 0; last = 0; breach = 0 }
 
 pub opening-taken : (job : Job) (n : ℕ) (st : PassState) (j : LinesJudged) (stands : List ℕ) → j .stage ≡ 0 → KeepsState job st j stands →
     KeepsStep job (passLine job n st opens) opened stands
-unfolding passLine orBroken isOpening faultOf isOn anyOf
+unfolding passLine orBroken isOpening breachOf isOn anyOf
 opening-taken job n unbegun j stands e k =
     let none-at : (i : ℕ) → getD stands i 0 ≡ 0 = k .3 in
     record {
@@ -94,7 +94,7 @@ opening-taken job n unbegun j stands e k =
       sum-is = refl;
       lowest-is = refl;
       last-is = refl;
-      fault-is = refl;
+      breach-is = refl;
       lines-are = λ z. record {
         lined-at = λ i h. rw (eq-eqb (getD stands i 0) 0 (none-at i));
         earlier-at = λ i h. rw (eq-eqb (getD stands i 0) 0 (none-at i));
@@ -153,10 +153,10 @@ module _ (job : Job) (n : ℕ) (j : LinesJudged) (stands : List ℕ) where
 
   -- behind it
   abbrev underTrack : ℕ → ℕ → LinesJudged
-  underTrack u s = record { stage = 1; track = u; line = n; printed = s; sum = 0; lowest = 0; last = j .last; fault = 0 }
+  underTrack u s = record { stage = 1; track = u; line = n; printed = s; sum = 0; lowest = 0; last = j .last; breach = 0 }
 
-  track-added : (u s : ℕ) (m : Summary) → m .track < u → KeepsSummary job m j stands → j .fault ≡ 0 → KeepsSummary job (addTrack n u s m) (underTrack u s) stands
-  unfolding faultOf
+  track-added : (u s : ℕ) (m : Summary) → m .track < u → KeepsSummary job m j stands → j .breach ≡ 0 → KeepsSummary job (addTrack n u s m) (underTrack u s) stands
+  unfolding breachOf
   track-added u s m l h z =
       let old = h .lines-are z in
       record {
@@ -167,7 +167,7 @@ module _ (job : Job) (n : ℕ) (j : LinesJudged) (stands : List ℕ) where
         sum-is = refl;
         lowest-is = refl;
         last-is = h .last-is;
-        fault-is = refl;
+        breach-is = refl;
         lines-are = λ e. record {
           lined-at = old .lined-at;
           earlier-at = λ k g.
@@ -196,7 +196,7 @@ module _ (job : Job) (n : ℕ) (j : LinesJudged) (stands : List ℕ) where
 
   -- behind it
   abbrev behindAll : LinesJudged
-  behindAll = record { stage = 2; track = 0; line = 0; printed = 0; sum = 0; lowest = 0; last = 0; fault = 0 }
+  behindAll = record { stage = 2; track = 0; line = 0; printed = 0; sum = 0; lowest = 0; last = 0; breach = 0 }
 
   pub closing-taken : (st : PassState) → canStand job st closes ≡ true → (settledOf j .stage ≡ 3 → ⊥) → allLined stands (length (job .nets)) ≡ true →
       KeepsState job st j stands → KeepsStep job (passLine job n st closes) behindAll stands
@@ -246,10 +246,10 @@ module _ (job : Job) (n : ℕ) (j : LinesJudged) (stands : List ℕ) where
       sum = j .sum;
       lowest = j .lowest;
       last = number;
-      fault = j .fault;
+      breach = j .breach;
     }
 
-    loose-test : (m : Summary) → KeepsSummary job m j stands → j .fault ≡ 0 → (isUnlined job (m .lined) number && ltb (m .last) number) ≡ isNewLoose
+    loose-test : (m : Summary) → KeepsSummary job m j stands → j .breach ≡ 0 → (isUnlined job (m .lined) number && ltb (m .last) number) ≡ isNewLoose
     loose-test m h z = rw (unlined-same job a m stands (h .lines-are z) number index is, h .last-is)
 
     pub loose-broken : (st : PassState) → canStand job st (loose number) ≡ true → (settledOf j .stage ≡ 3 → ⊥) → isNewLoose ≡ false →
@@ -261,7 +261,7 @@ module _ (job : Job) (n : ℕ) (j : LinesJudged) (stands : List ℕ) where
         let on = settled-on job m j stands h (orBroken n (isUnlined job (m .lined) number && ltb (m .last) number) (passes-on (running (addLoose number m)))) d in
         rw (in-turn job n m (loose number) e′, on .0, loose-test m h (on .1), t) (refl, refl))
 
-    loose-added : (m : Summary) → canStand job (running m) (loose number) ≡ true → KeepsSummary job m j stands → j .fault ≡ 0 → isNewLoose ≡ true →
+    loose-added : (m : Summary) → canStand job (running m) (loose number) ≡ true → KeepsSummary job m j stands → j .breach ≡ 0 → isNewLoose ≡ true →
         KeepsSummary job (addLoose number m) behindLoose (set stands index (j .track))
     unfolding canStand isInTurn endsTrack
     loose-added m e h z t =
@@ -279,7 +279,7 @@ module _ (job : Job) (n : ℕ) (j : LinesJudged) (stands : List ℕ) where
           sum-is = h .sum-is;
           lowest-is = h .lowest-is;
           last-is = refl;
-          fault-is = h .fault-is;
+          breach-is = h .breach-is;
           lines-are = λ f.
               subst (λ (t : ℕ). NetLines job (addLoose number m) (set stands index t)) (h .track-is)
               (line-added job a m (addLoose number m) stands index number refl refl refl (at .0) (at .1) (eqb-true (getD stands index 0) 0 (both .1)) begun (h .lines-are z));
@@ -296,31 +296,31 @@ module _ (job : Job) (n : ℕ) (j : LinesJudged) (stands : List ℕ) where
 
 -- ---- a wire
 
-fault-follows : (f n : ℕ) (passed asked : Bool) → 1 ≤ n → (f ≡ 0 → passed ≡ asked) → faultAfter (faultOf f) n asked ≡ faultOf (firstFault f passed n)
-unfolding faultAfter
-fault-follows f n passed asked l same =
+breach-follows : (f n : ℕ) (passed asked : Bool) → 1 ≤ n → (f ≡ 0 → passed ≡ asked) → breachAfter (breachOf f) n asked ≡ breachOf (firstBreach f passed n)
+unfolding breachAfter
+breach-follows f n passed asked l same =
     by-test (eqb f 0)
     (λ t.
     let z = eqb-true f 0 t in
     by-test passed
-    (λ p. rw (fault-none f z, sym (same z) ∙ p, fault-still-none f passed n z p, fault-none 0 refl))
-    (λ p. rw (fault-none f z, sym (same z) ∙ p, fault-here f passed n z p, fault-some n (λ (e : n ≡ 0). omega arith))))
-    (λ t. let d = eqb-false f 0 t in rw (fault-before f passed n d, fault-some f d))
+    (λ p. rw (breach-none f z, sym (same z) ∙ p, breach-still-none f passed n z p, breach-none 0 refl))
+    (λ p. rw (breach-none f z, sym (same z) ∙ p, breach-here f passed n z p, breach-some n (λ (e : n ≡ 0). omega arith))))
+    (λ t. let d = eqb-false f 0 t in rw (breach-before f passed n d, breach-some f d))
 
-no-fault : (f n : ℕ) (passed : Bool) → 1 ≤ n → firstFault f passed n ≡ 0 → (f ≡ 0) × (passed ≡ true)
-no-fault f n passed l e =
+no-breach : (f n : ℕ) (passed : Bool) → 1 ≤ n → firstBreach f passed n ≡ 0 → (f ≡ 0) × (passed ≡ true)
+no-breach f n passed l e =
     by-test (eqb f 0)
     (λ t.
     let z = eqb-true f 0 t in
     by-test passed
     (λ p. (z, p))
-    (λ p. let o : n ≡ 0 = sym (fault-here f passed n z p) ∙ e in absurd (omega arith)))
-    (λ t. let d = eqb-false f 0 t in absurd (d (sym (fault-before f passed n d) ∙ e)))
+    (λ p. let o : n ≡ 0 = sym (breach-here f passed n z p) ∙ e in absurd (omega arith)))
+    (λ t. let d = eqb-false f 0 t in absurd (d (sym (breach-before f passed n d) ∙ e)))
 
 module _ (job : Job) (n : ℕ) (line : LineInRange n) (s : Summary) (w : Wire) (j : LinesJudged) where
   -- behind a wire line
   abbrev behindWire : ℕ → ℕ → ℕ → LinesJudged
-  behindWire more lowest fault = record {
+  behindWire more lowest breach = record {
     stage = j .stage;
     track = j .track;
     line = j .line;
@@ -328,12 +328,12 @@ module _ (job : Job) (n : ℕ) (line : LineInRange n) (s : Summary) (w : Wire) (
     sum = j .sum + more;
     lowest = lowest;
     last = j .last;
-    fault = fault;
+    breach = breach;
   }
 
   -- that draws no placement of its net
   pub undrawn-added : (before after : List ℕ) (more : ℕ) → worthOf job (w .number) ≡ more → KeepsSummary job s j before →
-      KeepsSummary job (addWire job n w none s) (behindWire more (j .lowest) (firstFault (j .fault) false n)) after
+      KeepsSummary job (addWire job n w none s) (behindWire more (j .lowest) (firstBreach (j .breach) false n)) after
   unfolding isNextWire lowestOf
   undrawn-added before after more v h =
       record {
@@ -344,8 +344,8 @@ module _ (job : Job) (n : ℕ) (line : LineInRange n) (s : Summary) (w : Wire) (
         sum-is = ap₂ (λ x y. x + y) (h .sum-is) v;
         lowest-is = h .lowest-is;
         last-is = h .last-is;
-        fault-is = ap (λ (f : Option ℕ). faultAfter f n false) (h .fault-is) ∙ (fault-follows (j .fault) n false false (line .0) (λ z. refl));
-        lines-are = λ z. absurd (false≢true (no-fault (j .fault) n false (line .0) z .1));
+        breach-is = ap (λ (f : Option ℕ). breachAfter f n false) (h .breach-is) ∙ (breach-follows (j .breach) n false false (line .0) (λ z. refl));
+        lines-are = λ z. absurd (false≢true (no-breach (j .breach) n false (line .0) z .1));
       }
 
   module _ (a : AcceptedJob job) (found : NetFound) (is : NetIs job found) (numbered : found .net .number ≡ w .number) (words stands : List ℕ)
@@ -364,7 +364,7 @@ module _ (job : Job) (n : ℕ) (line : LineInRange n) (s : Summary) (w : Wire) (
     -- that draws its net in a shape with its top at a row
     drawn-added : KeepsSummary job s j stands →
         KeepsSummary job (addWire job n w (some (placementAt (found .net) shape top)) s)
-        (behindWire (worth (job .board) (found .net)) (top + span (found .net) + extra shape) (firstFault (j .fault) next n))
+        (behindWire (worth (job .board) (found .net)) (top + span (found .net) + extra shape) (firstBreach (j .breach) next n))
         (set stands (found .index) (j .track))
     unfolding lowestOf
     drawn-added h =
@@ -377,19 +377,19 @@ module _ (job : Job) (n : ℕ) (line : LineInRange n) (s : Summary) (w : Wire) (
           sum-is = ap₂ (λ x y. x + y) (h .sum-is) drawn-worth;
           lowest-is = refl;
           last-is = h .last-is;
-          fault-is =
-              ap (λ (f : Option ℕ). faultAfter f n (isNextWire job s (some (placementAt (found .net) shape top)))) (h .fault-is) ∙
-              (fault-follows (j .fault) n next (isNextWire job s (some (placementAt (found .net) shape top))) (line .0)
+          breach-is =
+              ap (λ (f : Option ℕ). breachAfter f n (isNextWire job s (some (placementAt (found .net) shape top)))) (h .breach-is) ∙
+              (breach-follows (j .breach) n next (isNextWire job s (some (placementAt (found .net) shape top))) (line .0)
               (λ z. next-same job a s stands (h .lines-are z) words found j top shape is (rw on at blocks) on (sym (h .lowest-is))));
           lines-are = λ z.
-              let p = no-fault (j .fault) n next (line .0) z in
+              let p = no-breach (j .breach) n next (line .0) z in
               subst (λ (t : ℕ). NetLines job (addWire job n w (some (placementAt (found .net) shape top)) s) (set stands (found .index) t)) (h .track-is)
               (line-added job a s (addWire job n w (some (placementAt (found .net) shape top)) s) stands (found .index) (w .number) refl refl refl
               (is .index-range) (ap (λ q. q .number) (is .net-is) ∙ numbered) (new-net (p .1)) (omega (arith, begun, on)) (h .lines-are (p .0)));
         }
 
     -- the same of what the code works out
-    pub drawn-kept : (more lowest fault : ℕ) → more ≡ worth (job .board) (found .net) → lowest ≡ top + covered (found .net) shape - 1 →
-        fault ≡ firstFault (j .fault) next n → KeepsSummary job s j stands →
-        KeepsSummary job (addWire job n w (some (placementAt (found .net) shape top)) s) (behindWire more lowest fault) (set stands (found .index) (j .track))
-    drawn-kept more lowest fault e f g h = rw (e, f ∙ lowest-row top (found .net) shape, g) (drawn-added h)
+    pub drawn-kept : (more lowest breach : ℕ) → more ≡ worth (job .board) (found .net) → lowest ≡ top + covered (found .net) shape - 1 →
+        breach ≡ firstBreach (j .breach) next n → KeepsSummary job s j stands →
+        KeepsSummary job (addWire job n w (some (placementAt (found .net) shape top)) s) (behindWire more lowest breach) (set stands (found .index) (j .track))
+    drawn-kept more lowest breach e f g h = rw (e, f ∙ lowest-row top (found .net) shape, g) (drawn-added h)

@@ -11,44 +11,44 @@ use Rattle.lists.proofs.Cases.{by-test}
 use Rattle.board.specs.Job.{Job}
 use Rattle.layout.specs.Tree.{Wire, Line, track, wire, loose, closes}
 use Rattle.drc.specs.Judge.{endsTrack, isInTurn, isOpening, broken-at}
-use Rattle.drc.specs.Pass.{Summary, PassState, unbegun, running, finished, PassStep, decides, closedAt, unlessFault, judgedTrack, orBroken, passLine, passIllFormed}
+use Rattle.drc.specs.Pass.{Summary, PassState, unbegun, running, finished, PassStep, decides, closedAt, unlessBreach, judgedTrack, orBroken, passLine, passIllFormed}
 use Rattle.judging.specs.declared.LinesJudged.{LinesJudged}
-use Rattle.judging.specs.Judged.{faultOf, KeepsSummary, KeepsState, KeepsStep}
+use Rattle.judging.specs.Judged.{breachOf, KeepsSummary, KeepsState, KeepsStep}
 use Rattle.judging.specs.Values.{closedOf, settledOf, isTrackTurn, isWireTurn, isEndTurn}
 use Rattle.judging.proofs.ValueTests.{closed-here, closed-above, settled-sum, settled-wire, settled-kept}
 
--- ---- the line of a fault
+-- ---- the line of a breach
 
-pub fault-none : (k : ℕ) → k ≡ 0 → faultOf k ≡ none
-unfolding faultOf
-fault-none k e = rw e
+pub breach-none : (k : ℕ) → k ≡ 0 → breachOf k ≡ none
+unfolding breachOf
+breach-none k e = rw e
 
-pub fault-some : (k : ℕ) → (k ≡ 0 → ⊥) → faultOf k ≡ some k
-unfolding faultOf
-fault-some zero d = absurd (d refl)
-fault-some (suc k) d = refl
+pub breach-some : (k : ℕ) → (k ≡ 0 → ⊥) → breachOf k ≡ some k
+unfolding breachOf
+breach-some zero d = absurd (d refl)
+breach-some (suc k) d = refl
 
 -- ---- the judging closes
 
 pub closed-stage : (j : LinesJudged) (n : ℕ) → closedOf j n .stage ≡ 3
-closed-stage j n = by-test (eqb (j .fault) 0) (λ t. rw (closed-here j n (eqb-true (j .fault) 0 t))) (λ t. rw (closed-above j n (eqb-false (j .fault) 0 t)))
+closed-stage j n = by-test (eqb (j .breach) 0) (λ t. rw (closed-here j n (eqb-true (j .breach) 0 t))) (λ t. rw (closed-above j n (eqb-false (j .breach) 0 t)))
 
-closed-line : (j : LinesJudged) (n : ℕ) → j .fault ≡ 0 → broken-at n ≡ broken-at (closedOf j n .fault)
+closed-line : (j : LinesJudged) (n : ℕ) → j .breach ≡ 0 → broken-at n ≡ broken-at (closedOf j n .breach)
 closed-line j n e = rw (closed-here j n e)
 
-closed-fault : (j : LinesJudged) (n : ℕ) → closedAt (faultOf (j .fault)) n ≡ broken-at (closedOf j n .fault)
+closed-breach : (j : LinesJudged) (n : ℕ) → closedAt (breachOf (j .breach)) n ≡ broken-at (closedOf j n .breach)
 unfolding closedAt
-closed-fault j n =
-    by-test (eqb (j .fault) 0)
-    (λ t. let e = eqb-true (j .fault) 0 t in rw (fault-none (j .fault) e, closed-here j n e))
-    (λ t. let d = eqb-false (j .fault) 0 t in rw (fault-some (j .fault) d, closed-above j n d))
+closed-breach j n =
+    by-test (eqb (j .breach) 0)
+    (λ t. let e = eqb-true (j .breach) 0 t in rw (breach-none (j .breach) e, closed-here j n e))
+    (λ t. let d = eqb-false (j .breach) 0 t in rw (breach-some (j .breach) d, closed-above j n d))
 
 module _ (job : Job) where
   -- a line not of the form
-  pub closes-ill-formed : (n : ℕ) (st : PassState) (j : LinesJudged) (stands : List ℕ) → KeepsState job st j stands → passIllFormed n st ≡ broken-at (closedOf j n .fault)
+  pub closes-ill-formed : (n : ℕ) (st : PassState) (j : LinesJudged) (stands : List ℕ) → KeepsState job st j stands → passIllFormed n st ≡ broken-at (closedOf j n .breach)
   unfolding passIllFormed
   closes-ill-formed n unbegun j stands k = closed-line j n (k .1)
-  closes-ill-formed n (running m) j stands k = rw (k .fault-is) (closed-fault j n)
+  closes-ill-formed n (running m) j stands k = rw (k .breach-is) (closed-breach j n)
   closes-ill-formed n finished j stands k = closed-line j n (k .1)
 
   -- the line can stand where the pass stands
@@ -102,19 +102,19 @@ module _ (job : Job) where
   module _ (m : Summary) (j : LinesJudged) (stands : List ℕ) (h : KeepsSummary job m j stands) (x : PassStep) where
     -- by value: broken, or as it was
     pub settles : {P : Type 0} → (KeepsStep job (judgedTrack m x) (settledOf j) stands → settledOf j .stage ≡ 3 → P) →
-        (judgedTrack m x ≡ x → j .fault ≡ 0 → settledOf j ≡ j → P) → P
-    unfolding judgedTrack unlessFault
+        (judgedTrack m x ≡ x → j .breach ≡ 0 → settledOf j ≡ j → P) → P
+    unfolding judgedTrack unlessBreach
     settles broke kept =
         by-test (eqb (j .sum) (j .printed))
         (λ t.
         let e = eqb-true (j .sum) (j .printed) t in
-        by-test (eqb (j .fault) 0)
+        by-test (eqb (j .breach) 0)
         (λ f.
-        let z = eqb-true (j .fault) 0 f in
-        kept (rw (h .sum-is, h .printed-is, t, h .fault-is, fault-none (j .fault) z)) z (settled-kept j e z))
+        let z = eqb-true (j .breach) 0 f in
+        kept (rw (h .sum-is, h .printed-is, t, h .breach-is, breach-none (j .breach) z)) z (settled-kept j e z))
         (λ f.
-        let d = eqb-false (j .fault) 0 f in
-        broke (rw (h .sum-is, h .printed-is, t, h .fault-is, fault-some (j .fault) d, settled-wire j e d) (refl, refl)) (rw (settled-wire j e d))))
+        let d = eqb-false (j .breach) 0 f in
+        broke (rw (h .sum-is, h .printed-is, t, h .breach-is, breach-some (j .breach) d, settled-wire j e d) (refl, refl)) (rw (settled-wire j e d))))
         (λ t.
         let d = eqb-false (j .sum) (j .printed) t in
         broke (rw (h .sum-is, h .printed-is, t, h .line-is, settled-sum j d) (refl, refl)) (rw (settled-sum j d)))
@@ -126,5 +126,5 @@ module _ (job : Job) where
         (λ k z s. let o : _≡_ {A = ℕ} 3 1 = sym e ∙ ap (λ (i : LinesJudged). i .stage) s ∙ h .stage-is in absurd (omega arith))
 
     -- the pass goes on
-    pub settled-on : (settledOf j .stage ≡ 3 → ⊥) → (judgedTrack m x ≡ x) × (j .fault ≡ 0)
+    pub settled-on : (settledOf j .stage ≡ 3 → ⊥) → (judgedTrack m x ≡ x) × (j .breach ≡ 0)
     settled-on d = settles (λ k f. absurd (d f)) (λ k z s. (k, z))

@@ -15,7 +15,7 @@ use Rattle.board.specs.Placement.{covered}
 use Rattle.blockmap.specs.Clear.{allUnset}
 use Rattle.judging.specs.declared.LinesJudged.{LinesJudged}
 use Rattle.judging.specs.declared.NetFound.{NetFound}
-use Rattle.judging.specs.Values.{isAllowed, readyAt, isNextAt, NetFits, firstFault, brokenOff, closedOf, settledOf}
+use Rattle.judging.specs.Values.{isAllowed, readyAt, isNextAt, NetFits, firstBreach, brokenOff, closedOf, settledOf}
 
 -- ---- the length
 
@@ -46,25 +46,25 @@ module _ (before : ℕ) (stands : List ℕ) (track : ℕ) where
 -- ---- where the judging closes, and where the wires of a track end
 
 module _ (j : LinesJudged) where
-  pub closed-here : (n : ℕ) → j .fault ≡ 0 → closedOf j n ≡ brokenOff n
+  pub closed-here : (n : ℕ) → j .breach ≡ 0 → closedOf j n ≡ brokenOff n
   unfolding closedOf
-  closed-here n e = rw (eq-eqb (j .fault) 0 e)
+  closed-here n e = rw (eq-eqb (j .breach) 0 e)
 
-  pub closed-above : (n : ℕ) → (j .fault ≡ 0 → ⊥) → closedOf j n ≡ brokenOff (j .fault)
+  pub closed-above : (n : ℕ) → (j .breach ≡ 0 → ⊥) → closedOf j n ≡ brokenOff (j .breach)
   unfolding closedOf
-  closed-above n d = rw (ne-eqb (j .fault) 0 d)
+  closed-above n d = rw (ne-eqb (j .breach) 0 d)
 
   pub settled-sum : (j .sum ≡ j .printed → ⊥) → settledOf j ≡ brokenOff (j .line)
   unfolding settledOf
   settled-sum d = rw (ne-eqb (j .sum) (j .printed) d)
 
-  pub settled-wire : j .sum ≡ j .printed → (j .fault ≡ 0 → ⊥) → settledOf j ≡ brokenOff (j .fault)
+  pub settled-wire : j .sum ≡ j .printed → (j .breach ≡ 0 → ⊥) → settledOf j ≡ brokenOff (j .breach)
   unfolding settledOf
-  settled-wire e d = rw (eq-eqb (j .sum) (j .printed) e, ne-eqb (j .fault) 0 d)
+  settled-wire e d = rw (eq-eqb (j .sum) (j .printed) e, ne-eqb (j .breach) 0 d)
 
-  pub settled-kept : j .sum ≡ j .printed → j .fault ≡ 0 → settledOf j ≡ j
+  pub settled-kept : j .sum ≡ j .printed → j .breach ≡ 0 → settledOf j ≡ j
   unfolding settledOf
-  settled-kept e f = rw (eq-eqb (j .sum) (j .printed) e, eq-eqb (j .fault) 0 f)
+  settled-kept e f = rw (eq-eqb (j .sum) (j .printed) e, eq-eqb (j .breach) 0 f)
 
 -- ---- a wire drawn
 
@@ -118,18 +118,18 @@ lowest-row top n s = omega arith
 
 -- ---- the line of the first broken wire
 
-module _ (fault : ℕ) (passed : Bool) (n : ℕ) where
-  pub fault-before : (fault ≡ 0 → ⊥) → firstFault fault passed n ≡ fault
-  unfolding firstFault
-  fault-before d = rw (ne-eqb fault 0 d)
+module _ (breach : ℕ) (passed : Bool) (n : ℕ) where
+  pub breach-before : (breach ≡ 0 → ⊥) → firstBreach breach passed n ≡ breach
+  unfolding firstBreach
+  breach-before d = rw (ne-eqb breach 0 d)
 
-  pub fault-still-none : fault ≡ 0 → passed ≡ true → firstFault fault passed n ≡ 0
-  unfolding firstFault
-  fault-still-none e t = rw (eq-eqb fault 0 e, t)
+  pub breach-still-none : breach ≡ 0 → passed ≡ true → firstBreach breach passed n ≡ 0
+  unfolding firstBreach
+  breach-still-none e t = rw (eq-eqb breach 0 e, t)
 
-  pub fault-here : fault ≡ 0 → passed ≡ false → firstFault fault passed n ≡ n
-  unfolding firstFault
-  fault-here e t = rw (eq-eqb fault 0 e, t)
+  pub breach-here : breach ≡ 0 → passed ≡ false → firstBreach breach passed n ≡ n
+  unfolding firstBreach
+  breach-here e t = rw (eq-eqb breach 0 e, t)
 
 -- ---- a loose line
 

@@ -14,9 +14,9 @@ use Rattle.drc.specs.Pass.{Summary, PassState, unbegun, running, finished, Pass
 use Rattle.judging.specs.declared.LinesJudged.{LinesJudged}
 
 -- the line of the first broken wire, 0 where there is none: lines count from 1
-unfoldable pub faultOf : ℕ → Option ℕ
-faultOf zero = none
-faultOf (suc l) = some (suc l)
+unfoldable pub breachOf : ℕ → Option ℕ
+breachOf zero = none
+breachOf (suc l) = some (suc l)
 
 -- stands[k] is the track line under which the line of net k stands, wire or loose; 0 where net k has no line above
 pub record NetLines (job : Job) (m : Summary) (stands : List ℕ) : Type 0 where
@@ -35,19 +35,19 @@ pub record KeepsSummary (job : Job) (m : Summary) (j : LinesJudged) (stands : Li
   pub sum-is : m .sum ≡ j .sum
   pub lowest-is : m .lowest ≡ j .lowest
   pub last-is : m .last ≡ j .last
-  pub fault-is : m .fault ≡ faultOf (j .fault)
-  pub lines-are : j .fault ≡ 0 → NetLines job m stands
+  pub breach-is : m .breach ≡ breachOf (j .breach)
+  pub lines-are : j .breach ≡ 0 → NetLines job m stands
 
 -- the same of a pass wherever it stands
 abbrev pub KeepsState : Job → PassState → LinesJudged → List ℕ → Type 0
-KeepsState job unbegun j stands = (j .stage ≡ 0) × (j .fault ≡ 0) × (length (job .nets) ≤ length stands) × ((k : ℕ) → getD stands k 0 ≡ 0)
+KeepsState job unbegun j stands = (j .stage ≡ 0) × (j .breach ≡ 0) × (length (job .nets) ≤ length stands) × ((k : ℕ) → getD stands k 0 ≡ 0)
 KeepsState job (running m) j stands = KeepsSummary job m j stands
-KeepsState job finished j stands = (j .stage ≡ 2) × (j .fault ≡ 0)
+KeepsState job finished j stands = (j .stage ≡ 2) × (j .breach ≡ 0)
 
 -- and behind a line: where the verdict stands, it is broken at the line that j names
 abbrev pub KeepsStep : Job → PassStep → LinesJudged → List ℕ → Type 0
 KeepsStep job (passes-on st) j stands = KeepsState job st j stands
-KeepsStep job (decides v) j stands = (j .stage ≡ 3) × (v ≡ broken-at (j .fault))
+KeepsStep job (decides v) j stands = (j .stage ≡ 3) × (v ≡ broken-at (j .breach))
 
 -- the numbers kept behind n lines: a track is at most 128, and each line adds at most 4,096 to a sum, so that none runs over
 pub record JudgedInRange (n : ℕ) (j : LinesJudged) : Type 0 where

@@ -45,23 +45,23 @@ isNextAt board words stands found j top s =
 
 -- nothing stands above
 abbrev pub notBegun : LinesJudged
-notBegun = record { stage = 0; track = 0; line = 0; printed = 0; sum = 0; lowest = 0; last = 0; fault = 0 }
+notBegun = record { stage = 0; track = 0; line = 0; printed = 0; sum = 0; lowest = 0; last = 0; breach = 0 }
 
 -- the line of the first broken wire of a track, 0 if none is broken, where the wire of line n is the last
-unfoldable pub firstFault : ℕ → Bool → ℕ → ℕ
-firstFault fault passed n = cond (eqb fault 0) (cond passed 0 n) fault
+unfoldable pub firstBreach : ℕ → Bool → ℕ → ℕ
+firstBreach breach passed n = cond (eqb breach 0) (cond passed 0 n) breach
 
 -- the verdict stands: broken at line l
 abbrev pub brokenOff : ℕ → LinesJudged
-brokenOff l = record { stage = 3; track = 0; line = 0; printed = 0; sum = 0; lowest = 0; last = 0; fault = l }
+brokenOff l = record { stage = 3; track = 0; line = 0; printed = 0; sum = 0; lowest = 0; last = 0; breach = l }
 
 -- the judging closes at line n: broken at the first broken wire of the track, or at line n
 unfoldable pub closedOf : LinesJudged → ℕ → LinesJudged
-closedOf j n = cond (eqb (j .fault) 0) (brokenOff n) (brokenOff (j .fault))
+closedOf j n = cond (eqb (j .breach) 0) (brokenOff n) (brokenOff (j .breach))
 
 -- the wires of the track end: broken at its track line if its sum is false, at its first broken wire if it has one
 unfoldable pub settledOf : LinesJudged → LinesJudged
-settledOf j = cond (eqb (j .sum) (j .printed)) (cond (eqb (j .fault) 0) j (brokenOff (j .fault))) (brokenOff (j .line))
+settledOf j = cond (eqb (j .sum) (j .printed)) (cond (eqb (j .breach) 0) j (brokenOff (j .breach))) (brokenOff (j .line))
 
 -- the line of track u can stand behind the lines that j keeps, on a board with k tracks
 abbrev pub isTrackTurn : ℕ → LinesJudged → ℕ → Bool

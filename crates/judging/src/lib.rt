@@ -17,7 +17,7 @@ ghost use Rattle.layout.specs.Tree.{Wire, opens, loose, closes};
 ghost use Rattle.sound.specs.Wires.{worthOf};
 ghost use Rattle.drc.specs.Pass.{Summary, PassState, addWire, passLine};
 ghost use Rattle.judging.specs.Judged.{KeepsSummary, KeepsState, KeepsStep, JudgedInRange, LineInRange};
-ghost use Rattle.judging.specs.Values.{isNumbered, isAllowed, readyAt, isNextAt, allLined, firstFault, notBegun, brokenOff, closedOf, settledOf, isTrackTurn, isWireTurn, isEndTurn, NetIs, NetFits, MapIs};
+ghost use Rattle.judging.specs.Values.{isNumbered, isAllowed, readyAt, isNextAt, allLined, firstBreach, notBegun, brokenOff, closedOf, settledOf, isTrackTurn, isWireTurn, isEndTurn, NetIs, NetFits, MapIs};
 use board::Board;
 use board::Net;
 use board::Row;
@@ -29,12 +29,12 @@ const UNBEGUN: usize = 0;
 
 const RUNNING: usize = 1;
 
-const FINISHED: usize = 2;
+pub const FINISHED: usize = 2;
 
-const DECIDED: usize = 3;
+pub const DECIDED: usize = 3;
 
 // What is kept of the lines above: their stage; the last track line, its track, its line, the sum that it prints and the sum of its wires
-// so far; the lowest row that a wire of the track covers; the number of the last loose line; and the line of the first broken wire of the
+// so far; the lowest row of the last wire drawn on the track; the number of the last loose line; and the line of the first broken wire of the
 // track, or, where the verdict stands, the broken line. 0 where there is none.
 pub struct LinesJudged {
     pub stage: usize,
@@ -44,7 +44,7 @@ pub struct LinesJudged {
     pub sum: usize,
     pub lowest: usize,
     pub last: usize,
-    pub fault: usize,
+    pub breach: usize,
 }
 
 // A net of the job: its index there, and the index of the net that precedes it, 512 if there is none.
@@ -150,7 +150,7 @@ pub fn unbegun() -> LinesJudged
         sum: 0,
         lowest: 0,
         last: 0,
-        fault: 0,
+        breach: 0,
     }
 }
 
@@ -166,7 +166,7 @@ fn broken(line: usize) -> LinesJudged
         sum: 0,
         lowest: 0,
         last: 0,
-        fault: line,
+        breach: line,
     }
 }
 
@@ -175,10 +175,10 @@ fn broken(line: usize) -> LinesJudged
 pub fn closed(m: LinesJudged, line: usize) -> LinesJudged
     ensures { λ r. ⌜ r ≡ closedOf m line ⌝ }
 {
-    if m.fault == 0 {
+    if m.breach == 0 {
         return broken(line);
     }
-    broken(m.fault)
+    broken(m.breach)
 }
 
 // The wires of a track end: its sum is judged, at its track line, then its wires. What was kept is kept if none is broken.
@@ -188,8 +188,8 @@ fn settled(m: LinesJudged) -> LinesJudged
     if m.sum != m.printed {
         return broken(m.line);
     }
-    if m.fault != 0 {
-        return broken(m.fault);
+    if m.breach != 0 {
+        return broken(m.breach);
     }
     m
 }
@@ -260,7 +260,7 @@ pub fn take_track(
         sum: 0,
         lowest: 0,
         last: m.last,
-        fault: 0,
+        breach: 0,
     }
 }
 
@@ -295,11 +295,11 @@ pub fn may_stand<'a>(
 }
 
 // The line of the first broken wire of a track behind one more wire, 0 if none is broken.
-fn first_fault(fault: usize, passed: bool, line: usize) -> usize
-    ensures { λ r. ⌜ r ≡ firstFault fault passed line ⌝ }
+fn first_breach(breach: usize, passed: bool, line: usize) -> usize
+    ensures { λ r. ⌜ r ≡ firstBreach breach passed line ⌝ }
 {
-    if fault != 0 {
-        return fault;
+    if breach != 0 {
+        return breach;
     }
     if passed {
         return 0;
@@ -315,10 +315,10 @@ pub fn add_undrawn(m: LinesJudged, line: usize, worth: usize) -> LinesJudged
     ensures { λ r. ⌜ ((job : Job) (s : Summary) (w : Wire) (before after : List ℕ) → worthOf job (w .number) ≡ worth → KeepsSummary job s m before → KeepsSummary job (addWire job line w none s) r after) ⌝ }
     ensures { λ r. ⌜ (JudgedInRange line r) ⌝ }
 {
-    let fault = first_fault(m.fault, false, line);
+    let breach = first_breach(m.breach, false, line);
     LinesJudged {
         sum: m.sum + worth,
-        fault,
+        breach,
         ..m
     }
 }
@@ -343,7 +343,7 @@ pub fn add_drawn(
     let net = found.net;
     let index = found.index;
     let passed = may_stand(board, found, words, stands, m, top, shape);
-    let fault = first_fault(m.fault, passed, line);
+    let breach = first_breach(m.breach, passed, line);
     stands[index] = m.track;
     let rows = board::covered(net, shape);
     let lowest = top.0 + rows - 1;
@@ -352,7 +352,7 @@ pub fn add_drawn(
     LinesJudged {
         sum,
         lowest,
-        fault,
+        breach,
         ..m
     }
 }

@@ -19,7 +19,7 @@ closed-requires c κs = search needs
 returns-2 : tie.Need-returns-2
 returns-2 c =
     let a = c .before .before .before .args in
-    λ job st stands k. ap (λ (j : LinesJudged). Is.Broken (j .fault)) (c .closed .ensures) ∙ ends-early job st (a .m) stands (a .line) k (λ (e : a .m .stage ≡ 2). omega (arith, c .before .if1 .left))
+    λ job st stands k. ap (λ (j : LinesJudged). Is.Broken (j .breach)) (c .closed .ensures) ∙ ends-early job st (a .m) stands (a .line) k (λ (e : a .m .stage ≡ 2). omega (arith, c .before .if1 .left))
 
 pub finish-spec : {M : Type 1} → statement M
 finish-spec = tie.close (tie.spec returns closed-requires returns-2)

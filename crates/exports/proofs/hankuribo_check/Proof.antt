@@ -28,7 +28,7 @@ returns c =
     let l = b .before in
     let a = l .before .check .ensures in (
       check-reply-given _ _ _ (a .0) _ _ _ _ (c .check-number .ensures) (l .check-line .ensures) (b .is-broken .ensures) (o .one-if .ensures),
-      subst (RightVerdict _ _) (a .0) (a .1),
+      subst (RightVerdict _ _) (a .0) (a .1 .1),
     )
 
 pub hankuribo-check-spec : {M : Type 1} → statement M

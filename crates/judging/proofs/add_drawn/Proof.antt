@@ -6,7 +6,7 @@ use native.Mathlib.Omega.{arith}
 use Rattle.board.specs.declared.Board.{Board}
 use Rattle.board.specs.Length.{worth}
 use Rattle.board.proofs.ShortestShape.{worth-range}
-use Rattle.judging.specs.Values.{isNextAt, firstFault}
+use Rattle.judging.specs.Values.{isNextAt, firstBreach}
 use Rattle.judging.proofs.ValueTests.{fits-covered}
 use Rattle.judging.proofs.Steps.{drawn-kept, kept-range}
 use borrow.Author.Needs.{needs}
@@ -16,8 +16,8 @@ use Rattle.judging.proofs.add_drawn.Tie as tie
 may-stand-requires : tie.Need-may-stand-requires
 may-stand-requires c κs = search needs
 
-first-fault-requires : tie.Need-first-fault-requires
-first-fault-requires c κs = search needs
+first-breach-requires : tie.Need-first-breach-requires
+first-breach-requires c κs = search needs
 
 mul-stands : tie.Need-mul-stands
 mul-stands c = search needs
@@ -63,8 +63,8 @@ returns c =
           drawn-kept job (a .line) (s .pre .0) m v (a .m) acc (a .found) found numbered (a .words .now) (a .stands .now) blocks begun (a .top .0) (a .shape) _ _ _
           (c .before .worth .ensures ∙ ap (λ (b : Board). worth b (a .found .net)) (sym is))
           (ap (λ (rows : ℕ). a .top .0 + rows - 1) (c .before .before .before .covered .ensures))
-          (c .before .before .before .before .first-fault .ensures ∙
-          ap (λ (passed : Bool). firstFault (a .m .fault) passed (a .line))
+          (c .before .before .before .before .first-breach .ensures ∙
+          ap (λ (passed : Bool). firstBreach (a .m .breach) passed (a .line))
           (c .before .before .before .before .before .may-stand .ensures ∙ ap (λ (b : Board). isNextAt b (a .words .now) (a .stands .now) (a .found) (a .m) (a .top .0) (a .shape)) (sym is)))
           h,
       kept-range (a .line) _ (a .m) (s .pre .0 .0) (s .pre .1 .0) refl (omega (arith, w, c .before .worth .ensures)),
@@ -75,7 +75,7 @@ add-drawn-spec =
     tie.close
     (tie.spec
     may-stand-requires
-    first-fault-requires
+    first-breach-requires
     mul-stands
     element-write-stands
     covered-requires

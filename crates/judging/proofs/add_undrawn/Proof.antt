@@ -6,8 +6,8 @@ use borrow.Author.Needs.{needs}
 use Rattle.judging.proofs.add_undrawn.Statement.{statement}
 use Rattle.judging.proofs.add_undrawn.Tie as tie
 
-first-fault-requires : tie.Need-first-fault-requires
-first-fault-requires c κs = search needs
+first-breach-requires : tie.Need-first-breach-requires
+first-breach-requires c κs = search needs
 
 add-t5 : tie.Need-add-t5
 add-t5 c = search needs
@@ -16,10 +16,10 @@ returns : tie.Need-returns
 returns c =
     let s = c .before .before in
     let a = s .args in
-    rw (c .before .first-fault .ensures) (
+    rw (c .before .first-breach .ensures) (
       λ job m w before after v h. undrawn-added job (a .line) (s .pre .0) m w (a .m) before after (a .worth) v h,
       kept-range (a .line) _ (a .m) (s .pre .0 .0) (s .pre .1 .0) refl (omega (arith, s .pre .1 .1)),
     )
 
 pub add-undrawn-spec : {M : Type 1} → statement M
-add-undrawn-spec = tie.close (tie.spec first-fault-requires add-t5 returns)
+add-undrawn-spec = tie.close (tie.spec first-breach-requires add-t5 returns)

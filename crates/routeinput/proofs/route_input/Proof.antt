@@ -1,11 +1,11 @@
--- `route::main` meets its contract: what is printed stands within its bytes. Assumes nothing.
+-- `routeinput::route_input` meets its contract: what is printed stands within its bytes. Assumes nothing.
 use Prim.Native.Nat.{_≤_}
 use native.Mathlib.Omega.{arith}
 use lib.ListN.{length, length-take}
 use Rattle.printing.proofs.Printing.{printed-within}
 use borrow.Author.Needs.{needs}
-use Rattle.route.proofs.main.Statement.{statement}
-use Rattle.route.proofs.main.Tie as tie
+use Rattle.routeinput.proofs.route_input.Statement.{statement}
+use Rattle.routeinput.proofs.route_input.Tie as tie
 
 room-requires : tie.Need-room-requires
 room-requires c κs = search needs
@@ -42,8 +42,8 @@ write-all-requires c κs = search needs
 returns : tie.Need-returns
 returns c = search needs
 
-pub main-spec : {M : Type 1} → statement M
-main-spec =
+pub route-input-spec : {M : Type 1} → statement M
+route-input-spec =
     tie.close
     (tie.spec
     room-requires

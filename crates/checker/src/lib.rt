@@ -96,7 +96,7 @@ fn judge_lines<'a>(
     let mut m = judging::unbegun();
     let mut place = Place::start();
     loop {
-        let LayoutStep::Read(form, from, to, next) = layoutsteps::read_line(place, text) else {
+        let LayoutStep::Read(form, from, to, next) = layoutsteps::line_at(place, text) else {
             return finish(m, place.passed + 1);
         };
         let line = place.passed + 1;

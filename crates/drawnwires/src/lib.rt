@@ -45,8 +45,8 @@ fn greater(u: usize, v: usize) -> usize
     u
 }
 
-// How much a is above b; 0 where it is not.
-fn above(a: usize, b: usize) -> usize
+// a less b; 0 where b is larger.
+fn less(a: usize, b: usize) -> usize
     ensures { λ r. ⌜ r ≡ a - b ⌝ }
 {
     if a < b {
@@ -69,7 +69,7 @@ fn only_place(net: Net, rows: ColumnRows) -> OnlyPlace
     let bottom = greater(rows.first, rows.last);
     OnlyPlace {
         top: Row(top),
-        shape: Shape::Stretched(above(bottom - top, board::span(net))),
+        shape: Shape::Stretched(less(bottom - top, board::span(net))),
     }
 }
 

@@ -227,8 +227,8 @@ module _ (job : Job) where
     unfolding isInTurn
     loose-rest k ls g n ws ns m f c e q =
         let next = fits-loose job a ws ns m k f q in
-        let no-wire : eqb k 0 ≡ false = sym (next .loose-is) ∙ some-loose ns k in
-        g (suc n) ws (ns ++ (k ∷ [])) (addLoose k m) next e (λ w. rw no-wire)
+        let ends-wires : eqb k 0 ≡ false = sym (next .loose-is) ∙ some-loose ns k in
+        g (suc n) ws (ns ++ (k ∷ [])) (addLoose k m) next e (λ w. rw ends-wires)
 
     waiting-loose : (k : ℕ) (ls : List (Option Line)) → Clean ls → Waiting (some (loose k) ∷ ls)
     unfolding passFrom passStep passLine passInTurn judgeFrom isInPlace isInTurn keepsRules withLine isTrueSum

@@ -11,14 +11,14 @@ use Rattle.board.specs.Job.{Job}
 use Rattle.layout.specs.Tree.{Wire, Line, opens, track, wire, loose, closes}
 use Rattle.sound.specs.Wires.{worthOf, sumOver, wireNumbers, wiresSum}
 use Rattle.drc.specs.Standing.{inLayout, CanStand}
-use Rattle.drc.specs.Breach.{NoWire, next-track, first-loose, last-line, FalseSum}
+use Rattle.drc.specs.Breach.{EndsWires, next-track, first-loose, last-line, FalseSum}
 use Rattle.drc.specs.Judge.{noneLoose, endsTrack, isInTurn, isInPlace, isTrueSum}
 use Rattle.drc.proofs.FailedTests.{or-fails}
 use Rattle.drc.proofs.InPlace.{can-stand-of, in-place-of}
 
 module _ (job : Job) (u s : ℕ) where
   -- a line that is no wire can stand behind the wires of track u exactly if it ends them
-  ends-of : (x : Line) → NoWire x → (earlier : List ℕ) (ws : List Wire) → endsTrack job u x ≡ isInPlace job (inLayout u earlier ws []) x
+  ends-of : (x : Line) → EndsWires x → (earlier : List ℕ) (ws : List Wire) → endsTrack job u x ≡ isInPlace job (inLayout u earlier ws []) x
   unfolding isInPlace isInTurn noneLoose
   ends-of (track t v) next-track earlier ws = refl
   ends-of (loose k) first-loose earlier ws = refl
@@ -30,11 +30,11 @@ module _ (job : Job) (u s : ℕ) where
     next : Line
     rest : List (Option Line)
     lines-below : ls ≡ map (λ v. some (wire v)) wires ++ some next ∷ rest
-    no-wire : NoWire next
+    ends-wires : EndsWires next
     ends : endsTrack job u next ≡ true
     differs : sum + wiresSum job wires ≡ s → ⊥
 
-  ends-sum : (sum : ℕ) (x : Line) (ls : List (Option Line)) → NoWire x → (not (endsTrack job u x) || eqb sum s) ≡ false → SumFails sum (some x ∷ ls)
+  ends-sum : (sum : ℕ) (x : Line) (ls : List (Option Line)) → EndsWires x → (not (endsTrack job u x) || eqb sum s) ≡ false → SumFails sum (some x ∷ ls)
   unfolding wiresSum sumOver
   ends-sum sum x ls n f =
       let o = or-fails (not (endsTrack job u x)) (eqb sum s) f in
@@ -43,7 +43,7 @@ module _ (job : Job) (u s : ℕ) where
         next = x;
         rest = ls;
         lines-below = refl;
-        no-wire = n;
+        ends-wires = n;
         ends = not-false (endsTrack job u x) (o .0);
         differs = λ (e : sum + 0 ≡ s). eqb-false sum s (o .1) (omega arith);
       }
@@ -63,7 +63,7 @@ module _ (job : Job) (u s : ℕ) where
         next = r .next;
         rest = r .rest;
         lines-below = ap (λ (l : List (Option Line)). some (wire w) ∷ l) (r .lines-below);
-        no-wire = r .no-wire;
+        ends-wires = r .ends-wires;
         ends = r .ends;
         differs = λ (e : sum + (worthOf job (w .number) + sumOver (worthOf job) (wireNumbers (r .wires))) ≡ s). r .differs (omega arith);
       }
@@ -76,18 +76,18 @@ module _ (job : Job) (u s : ℕ) where
         next = r .next;
         rest = r .rest;
         lines-below = r .lines-below;
-        no-wire = r .no-wire;
-        can-stand = can-stand-of job (inLayout u earlier (r .wires) []) (r .next) (rw (ends-of (r .next) (r .no-wire) earlier (r .wires)) at (r .ends));
+        ends-wires = r .ends-wires;
+        can-stand = can-stand-of job (inLayout u earlier (r .wires) []) (r .next) (rw (ends-of (r .next) (r .ends-wires) earlier (r .wires)) at (r .ends));
         differs = λ (e : wiresSum job (r .wires) ≡ s). r .differs (omega arith);
       }
 
-  ended-fails : (sum : ℕ) (x : Line) (ls : List (Option Line)) → NoWire x → endsTrack job u x ≡ true → (sum ≡ s → ⊥) → isTrueSum job u s sum (some x ∷ ls) ≡ false
+  ended-fails : (sum : ℕ) (x : Line) (ls : List (Option Line)) → EndsWires x → endsTrack job u x ≡ true → (sum ≡ s → ⊥) → isTrueSum job u s sum (some x ∷ ls) ≡ false
   unfolding isTrueSum
   ended-fails sum (track t v) ls next-track c d = rw (c, ne-eqb sum s d)
   ended-fails sum (loose k) ls first-loose c d = rw (c, ne-eqb sum s d)
   ended-fails sum closes ls last-line c d = rw (c, ne-eqb sum s d)
 
-  differing-fails : (sum : ℕ) (ws : List Wire) (x : Line) (ls : List (Option Line)) → NoWire x → endsTrack job u x ≡ true → (sum + wiresSum job ws ≡ s → ⊥) →
+  differing-fails : (sum : ℕ) (ws : List Wire) (x : Line) (ls : List (Option Line)) → EndsWires x → endsTrack job u x ≡ true → (sum + wiresSum job ws ≡ s → ⊥) →
       isTrueSum job u s sum (map (λ v. some (wire v)) ws ++ some x ∷ ls) ≡ false
   unfolding isTrueSum wiresSum sumOver
   differing-fails sum [] x ls n c d = ended-fails sum x ls n c (λ (e : sum ≡ s). d (omega arith))
@@ -96,6 +96,6 @@ module _ (job : Job) (u s : ℕ) where
 
   pub false-sum-fails : (earlier : List ℕ) (ls : List (Option Line)) → FalseSum job earlier u s ls → isTrueSum job u s 0 ls ≡ false
   false-sum-fails earlier ls r =
-      rw (r .lines-below) (differing-fails 0 (r .wires) (r .next) (r .rest) (r .no-wire)
-      (rw (ends-of (r .next) (r .no-wire) earlier (r .wires)) (in-place-of job (r .can-stand)))
+      rw (r .lines-below) (differing-fails 0 (r .wires) (r .next) (r .rest) (r .ends-wires)
+      (rw (ends-of (r .next) (r .ends-wires) earlier (r .wires)) (in-place-of job (r .can-stand)))
       (λ (e : 0 + wiresSum job (r .wires) ≡ s). r .differs (omega arith)))

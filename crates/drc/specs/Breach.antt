@@ -16,10 +16,10 @@ use Rattle.drc.specs.Standing.{linesRead, Above, beforeLayout, inLayout,
 -- ---- a track line
 
 -- a line that ends the wires of a track
-pub data NoWire : Line → Type 0 where
-  next-track : {u s : ℕ} → NoWire (track u s)
-  first-loose : {k : ℕ} → NoWire (loose k)
-  last-line : NoWire closes
+pub data EndsWires : Line → Type 0 where
+  next-track : {u s : ℕ} → EndsWires (track u s)
+  first-loose : {k : ℕ} → EndsWires (loose k)
+  last-line : EndsWires closes
 
 -- a false sum: the lines ls under track line u hold wires, then a line that can stand there, and the sum of the wires, each counted by
 -- its number, is not s. The sum is not judged where the judging closes at the line behind the wires
@@ -28,7 +28,7 @@ pub record FalseSum (job : Job) (earlier : List ℕ) (u s : ℕ) (ls : List (Opt
   pub next : Line
   pub rest : List (Option Line)
   pub lines-below : ls ≡ map (λ v. some (wire v)) wires ++ some next ∷ rest
-  pub no-wire : NoWire next
+  pub ends-wires : EndsWires next
   pub can-stand : CanStand job (inLayout u earlier wires []) next
   pub differs : wiresSum job wires ≡ s → ⊥
 

@@ -38,7 +38,7 @@ pub struct NetSlot {
 }
 
 // Reads the line at a place; a last line without byte 10 is not of the form.
-pub fn read_line(place: Place, s: &[u8]) -> LayoutStep
+pub fn line_at(place: Place, s: &[u8]) -> LayoutStep
     requires { ⌜ place .passed ≤ place .at ⌝ }
     ensures { λ r. ⌜ r ≡ layoutStep (now (s .entry)) place ⌝ }
 {

@@ -13,7 +13,7 @@ use Rattle.reader.specs.Reports.{refusedText}
 use Rattle.reader.proofs.Reports.{refused-length}
 use Rattle.checker.specs.declared.CheckAnswer.{CheckAnswer}
 use Rattle.checker.specs.Answers.{checkValues}
-use Rattle.verdicts.specs.Verdicts.{brokenText, soundText, verdictLine, checkText}
+use Rattle.verdicts.specs.Verdicts.{brokenText, soundLine, verdictLine, checkText}
 
 -- "(broken"
 abbrev pub brokenHead : List ℕ
@@ -40,7 +40,7 @@ pub broken-line : (n : ℕ) (b : Bool) (l : ℕ) → n ≡ 0 → b ≡ true → 
 unfolding verdictLine
 broken-line n b l e f = rw (e, f)
 
-pub sound-line : (n : ℕ) (b : Bool) (l : ℕ) → n ≡ 0 → b ≡ false → soundText ≡ verdictLine n b l
+pub sound-line : (n : ℕ) (b : Bool) (l : ℕ) → n ≡ 0 → b ≡ false → soundLine ≡ verdictLine n b l
 unfolding verdictLine
 sound-line n b l e f = rw (e, f)
 

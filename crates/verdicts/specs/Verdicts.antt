@@ -12,15 +12,15 @@ unfoldable pub brokenText : ℕ → List ℕ
 brokenText line = 40 ∷ 98 ∷ 114 ∷ 111 ∷ 107 ∷ 101 ∷ 110 ∷ 32 ∷ (digits line ++ 41 ∷ 10 ∷ [])
 
 -- (sound)
-abbrev pub soundText : List ℕ
-soundText = 40 ∷ 115 ∷ 111 ∷ 117 ∷ 110 ∷ 100 ∷ 41 ∷ 10 ∷ []
+abbrev pub soundLine : List ℕ
+soundLine = 40 ∷ 115 ∷ 111 ∷ 117 ∷ 110 ∷ 100 ∷ 41 ∷ 10 ∷ []
 
 -- by the number of the refusal, whether the layout is broken, and the line that is named: the refusal where there is one, else the broken
 -- line, else that the layout is sound
 unfoldable pub verdictLine : ℕ → Bool → ℕ → List ℕ
 verdictLine (suc n) broken line = refusedText (suc n) line
 verdictLine zero true line = brokenText line
-verdictLine zero false line = soundText
+verdictLine zero false line = soundLine
 
 -- what is printed for an answer
 abbrev pub checkText : CheckAnswer → List ℕ

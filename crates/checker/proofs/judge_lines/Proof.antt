@@ -31,7 +31,7 @@ size-at c = net-size (c .args .t1) (c .good .0)
 read-at : (c : tie.After-form Inv-loop μ-loop) →
     At.Read (c .form .given .0 .0) (c .form .given .0 .1 .0) (c .form .given .0 .1 .1 .0) (c .form .given .0 .1 .1 .1 .0) ≡
     layoutStep (c .before .before .before .before .before .before .before .before .before .args .text .now) (c .before .before .before .loop .place)
-read-at c = sym (c .form .given .1) ∙ c .before .before .read-line .ensures
+read-at c = sym (c .form .given .1) ∙ c .before .before .line-at .ensures
 
 -- the step over it
 moved-at : (c : tie.After-form Inv-loop μ-loop) →
@@ -68,8 +68,8 @@ loop-holds c =
     let s = c .before .before .before .before .before in
     left-start (jobOf (s .args .t1)) (s .args .text .now) _ _ _ (s .pre .0 .accepted .accepted .nets-count) (c .before .unbegun .ensures) (c .before .before .block-map .ensures) (c .start .ensures .0) (c .start .ensures .1)
 
-read-line-requires : tie.Need-read-line-requires Inv-loop μ-loop
-read-line-requires c κs = c .loop .inv .counted
+line-at-requires : tie.Need-line-at-requires Inv-loop μ-loop
+line-at-requires c κs = c .loop .inv .counted
 
 enum-known-form : tie.Need-enum-known-form Inv-loop μ-loop
 enum-known-form c = search needs
@@ -91,7 +91,7 @@ returns c =
     let s = c .before .before .before .before .before .before .before .before .before .before .before in
     let w = c .before .before .before .before .before .loop .inv in
     c .finish .ensures (jobOf (s .args .t1)) (w .state) _ (w .keeps) ∙
-    answer-end (jobOf (s .args .t1)) (s .pre .0 .accepted .accepted) _ _ (left-over _ _ _ _ _ _ w (sym (c .before .before .enum-told .given .1) ∙ c .before .before .before .before .read-line .ensures))
+    answer-end (jobOf (s .args .t1)) (s .pre .0 .accepted .accepted) _ _ (left-over _ _ _ _ _ _ w (sym (c .before .before .enum-told .given .1) ∙ c .before .before .before .before .line-at .ensures))
 
 add-line : tie.Need-add-line Inv-loop μ-loop
 add-line c =
@@ -189,7 +189,7 @@ judge-lines-spec =
     unbegun-requires
     start-requires
     loop-holds
-    read-line-requires
+    line-at-requires
     enum-known-form
     enum-told
     add-finish

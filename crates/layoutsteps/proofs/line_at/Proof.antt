@@ -1,4 +1,4 @@
--- `layoutsteps::read_line` meets its contract. Assumes nothing.
+-- `layoutsteps::line_at` meets its contract. Assumes nothing.
 use mathlib.Core.Path.{_≡_, sym, ap, _∙_}
 use native.Mathlib.Omega.{arith}
 use Rattle.lines.specs.declared.Step.the-variants.{Line}
@@ -8,8 +8,8 @@ use Rattle.layoutsteps.specs.declared.LayoutStep.the-variants as At
 use Rattle.layoutsteps.specs.LayoutSteps.{layoutOn, layoutStep}
 use Rattle.layoutsteps.proofs.LineForms.{step-open, step-ended}
 use borrow.Author.Needs.{needs}
-use Rattle.layoutsteps.proofs.read_line.Statement.{statement}
-use Rattle.layoutsteps.proofs.read_line.Tie as tie
+use Rattle.layoutsteps.proofs.line_at.Statement.{statement}
+use Rattle.layoutsteps.proofs.line_at.Tie as tie
 
 next-line-requires : tie.Need-next-line-requires
 next-line-requires c κs = search needs
@@ -59,8 +59,8 @@ unfolding layoutStep layoutOn
 returns-3 c =
     ap (layoutOn _) (sym (c .enum-told .given .1) ∙ c .before .before .next-line .ensures)
 
-pub read-line-spec : {M : Type 1} → statement M
-read-line-spec =
+pub line-at-spec : {M : Type 1} → statement M
+line-at-spec =
     tie.close
     (tie.spec
     next-line-requires

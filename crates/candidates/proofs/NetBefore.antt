@@ -5,14 +5,14 @@ use mathlib.Core.Bool.{Bool, false}
 use mathlib.Core.List.{List, [], _∷_, _++_, map, map-append, List·Memᴰ, List·Memᴰ·head, List·Memᴰ·tail}
 use native.Mathlib.Omega.{arith}
 use lib.Dec.{eqb}
-use lib.ListN.{length, getD, take, drop, set, replicate, length-map, getD-replicate, List·getD-append}
-use lib.Seq.{split-at, take-take, getD-take, length-take-le, getD-set-same, getD-set-other}
+use lib.ListN.{length, getD, take, set, replicate, length-map, getD-replicate, List·getD-append}
+use lib.Seq.{getD-take, length-take-le, getD-set-same, getD-set-other}
 use borrow.Author.Tests.{eqb-true, eqb-false, ne-eqb}
 use Rattle.lists.specs.Lists.{Each, EachPair}
 use Rattle.lists.proofs.Cases.{by-test}
 use Rattle.lists.proofs.Laws.{Each-map}
-use Rattle.lists.proofs.Joins.{pair-across, EachPair-map}
-use Rattle.lists.proofs.Places.{take-more, mem-take, same-key, map-at}
+use Rattle.lists.proofs.Joins.{EachPair-map}
+use Rattle.lists.proofs.Places.{take-more, mem-take, pair-before, same-key, map-at}
 use Rattle.board.specs.declared.Net.{Net}
 use Rattle.board.specs.declared.StoredJob.{StoredJob}
 use Rattle.board.specs.Stored.{jobOf, noNet}
@@ -87,12 +87,7 @@ module _ (s : StoredJob) (accepted : AcceptedStored s) (size : length (s .nets) 
   lefts-before : Each (λ n. n .left .0 ≡ getD (s .nets) i noNet .left .0 → ⊥) (take i (s .nets))
   lefts-before =
       let r = accepted .nets-room in
-      let l : i < length (take (s .nnets) (s .nets)) = omega (arith, length-take-le (s .nnets) (s .nets) (omega arith)) in
-      let e = split-at (take (s .nnets) (s .nets)) i noNet l in
-      let t : take i (take (s .nnets) (s .nets)) ≡ take i (s .nets) = take-take i (s .nnets) (s .nets) (omega arith) in
-      let g : getD (take (s .nnets) (s .nets)) i noNet ≡ getD (s .nets) i noNet = getD-take (s .nnets) (s .nets) i noNet h in
-      let p = rw e at (accepted .accepted .lefts-differ) in
-      rw (t, g) at (pair-across (λ m n. m .left .0 ≡ n .left .0 → ⊥) (take i (take (s .nnets) (s .nets))) (getD (take (s .nnets) (s .nets)) i noNet) (drop (suc i) (take (s .nnets) (s .nets))) p)
+      pair-before (λ m n. m .left .0 ≡ n .left .0 → ⊥) (s .nets) (s .nnets) i noNet h (omega arith) (accepted .accepted .lefts-differ)
 
   pub by-left-more : (table : List ℕ) → length table ≡ 1024 → ByLeft table (take i (s .nets))
       → ByLeft (set table (getD (s .nets) i noNet .left .0 - 1) i) (take (i + 1) (s .nets))

@@ -5,11 +5,11 @@ use mathlib.Core.Bool.{Bool, true, false, true≢false}
 use mathlib.Core.List.{List}
 use native.Mathlib.Omega.{arith}
 use native.Mathlib.Numerals.{add-one}
-use lib.Dec.{eqb}
 use lib.ListN.{length, getD, set, length-set, length-replicate}
 use lib.Seq.{getD-set-same, getD-set-other}
-use borrow.Author.Tests.{le-leb, eqb-true, eqb-false}
+use borrow.Author.Tests.{le-leb}
 use Rattle.lists.proofs.Cases.{by-test, and-both}
+use Rattle.lists.proofs.Places.{set-each}
 use Rattle.candidates.specs.declared.Candidates.{Candidates}
 use Rattle.choice.specs.declared.Pick.{Pick}
 use Rattle.choice.specs.declared.Band.{Band}
@@ -32,13 +32,7 @@ shape-listed b i h s =
       count-range = omega arith;
       index-length = length-set (b .index) (b .count) i ∙ s .index-length;
       each = λ k l.
-          by-test (eqb k (b .count))
-          (λ z.
-          let z′ : k ≡ b .count = eqb-true _ _ z in
-          rw (z′, getD-set-same (b .index) (b .count) i 0 (omega arith)) (omega arith))
-          (λ z.
-          let e = eqb-false k (b .count) z in
-          rw (getD-set-other (b .index) (b .count) k i 0 e) (omega (arith, s .each k (omega arith))));
+          set-each (λ _ x. x < suc i) (b .index) (b .count) i k (omega arith) (omega arith) (λ (d : k ≡ b .count → ⊥). omega (arith, s .each k (omega (arith, d))));
     }
 
 shape-passed : (b : Band) (i : ℕ) → BandShape b i → BandShape b (suc i)

@@ -3,12 +3,10 @@ use Prim.Native.Nat.{ℕ, zero, suc, _+_, _-_, _≤_, _<_}
 use mathlib.Core.Path.{_≡_, refl, sym, ap, ap₂, _∙_}
 use mathlib.Core.List.{List, _∷_, _++_}
 use native.Mathlib.Omega.{arith}
-use lib.Dec.{eqb}
 use lib.ListN.{length, getD, set, drop, replicate, length-set, length-replicate, getD-replicate, replicate-append-replicate}
-use lib.Seq.{getD-set-same, getD-set-other, drop-cons, drop-set-lt, drop-at}
-use borrow.Author.Tests.{eqb-true, eqb-false}
+use lib.Seq.{getD-set-same, drop-cons, drop-set-lt, drop-at}
 use Rattle.lists.specs.Lists.{EachPair}
-use Rattle.lists.proofs.Cases.{by-test}
+use Rattle.lists.proofs.Places.{set-each}
 use Rattle.board.specs.Job.{Job}
 use Rattle.board.specs.Accepted.{AcceptedJob}
 use Rattle.packing.specs.Best.{best}
@@ -69,11 +67,7 @@ module _ (job : Job) (earlier : List ℕ) (t : ℕ) (c : Candidates) (flags : Li
           table-length = length-set table (suc i) (p .sum) ∙ b .table-length;
           choice-length = length-set choice i (p .at) ∙ b .choice-length;
           bests = λ r a l.
-              by-test (eqb r (suc i))
-              (λ z.
-              let z′ : r ≡ suc i = eqb-true _ _ z in
-              rw (z′, getD-set-same table (suc i) (p .sum) 0 (omega (arith, b .table-length)), q) (m .0))
-              (λ z. rw (getD-set-other table (suc i) r (p .sum) 0 (eqb-false r (suc i) z)) (b .bests r (omega (arith, eqb-false r (suc i) z)) l));
+              set-each (λ k x. x ≡ best job earlier t k) table (suc i) (p .sum) r (omega (arith, b .table-length)) (rw q (m .0)) (λ (d : r ≡ suc i → ⊥). b .bests r (omega (arith, d)) l);
           choices =
               drop-set choice i (p .at) (omega (arith, b .choice-length)) ∙ ap₂ (λ x xs. x ∷ xs) chosen (b .choices)
               ∙ sym (ap (λ n. choicesOf job earlier t n ++ replicate (1024 - job .board .rows) noChoice) e);

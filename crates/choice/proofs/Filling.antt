@@ -3,11 +3,8 @@ use Prim.Native.Nat.{ℕ, zero, suc, _+_, _*_, _-_, _≤_, _<_}
 use mathlib.Core.Path.{_≡_, refl, sym, ap, _∙_, subst}
 use mathlib.Core.List.{List}
 use native.Mathlib.Omega.{arith}
-use lib.Dec.{eqb}
 use lib.ListN.{length, getD, set, replicate, length-set, length-replicate, getD-replicate}
-use lib.Seq.{getD-set-same, getD-set-other}
-use borrow.Author.Tests.{eqb-true, eqb-false}
-use Rattle.lists.proofs.Cases.{by-test}
+use Rattle.lists.proofs.Places.{set-each}
 use Rattle.candidates.specs.declared.Candidates.{Candidates}
 use Rattle.choice.specs.declared.Pick.{Pick}
 use Rattle.choice.specs.declared.Band.{Band}
@@ -106,11 +103,7 @@ module _ (c : Candidates) (flags : List ℕ) (rows : ℕ) (b : InBounds c flags 
         best-length = length-set best (suc i) (p .sum) ∙ g .best-length;
         choice-length = length-set choice i (p .at) ∙ g .choice-length;
         low = λ r a h.
-            by-test (eqb r (suc i))
-            (λ z.
-            let z′ : r ≡ suc i = eqb-true _ _ z in
-            rw (z′, getD-set-same best (suc i) (p .sum) 0 (omega (arith, g .best-length)), q) l)
-            (λ z. rw (getD-set-other best (suc i) r (p .sum) 0 (eqb-false r (suc i) z)) (g .low r (omega (arith, eqb-false r (suc i) z)) h));
+            set-each (λ k x. x ≤ 4096 * (rows + 1 - k)) best (suc i) (p .sum) r (omega (arith, g .best-length)) (rw q l) (λ (d : r ≡ suc i → ⊥). g .low r (omega (arith, d)) h);
         same = rw q (g .same);
       }
 

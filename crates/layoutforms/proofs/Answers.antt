@@ -1,6 +1,6 @@
 -- The answers of the functions that read the parts of a line, one law for each way that a function returns. Assumes nothing.
 use mathlib.Core.Path.{_≡_, refl, sym, _∙_}
-use mathlib.Core.Bool.{true, false, and-true}
+use mathlib.Core.Bool.{Bool, true, false, and-true, cond}
 use mathlib.Core.List.{List, [], _∷_}
 use mathlib.Core.Option.{Option, none, some}
 use Prim.Native.Nat.{ℕ, suc, _+_, _-_, _≤_, _<_}
@@ -103,44 +103,30 @@ pub point-no-row : (s : List ℕ) (at c to : ℕ) → Value c to ≡ openedAt s 
 unfolding pointAt pointBehind pointFrom
 point-no-row s at c to e f = rw (← e, ← f)
 
-pub point-unshut : (s : List ℕ) (at c to r end : ℕ) → Value c to ≡ openedAt s at → Value r end ≡ spacedAt s to → beginsWith 41 (drop end s) ≡ false → Absent ≡ pointAt s at
+-- with its closing bracket, or without
+pub point-end : (b : Bool) (s : List ℕ) (at c to r end : ℕ) → Value c to ≡ openedAt s at → Value r end ≡ spacedAt s to → beginsWith 41 (drop end s) ≡ b →
+    cond b (Stands (record { column = c; row = r }) (end + 1)) Absent ≡ pointAt s at
 unfolding pointAt pointBehind pointFrom
-point-unshut s at c to r end e f g = rw (← e, ← f, g)
+point-end b s at c to r end e f g = rw (← e, ← f, g)
 
-pub point-shut : (s : List ℕ) (at c to r end : ℕ) → Value c to ≡ openedAt s at → Value r end ≡ spacedAt s to → beginsWith 41 (drop end s) ≡ true →
-    Stands (record { column = c; row = r }) (end + 1) ≡ pointAt s at
-unfolding pointAt pointBehind pointFrom
-point-shut s at c to r end e f g = rw (← e, ← f, g)
+-- ---- a line behind its word: of the form where what is left is the end of one, otherwise not
 
--- ---- a line behind its word
-
-pub loose-left : (s : List ℕ) (at n to : ℕ) → Value n to ≡ spacedAt s at → same (drop to s) shutText ≡ false → Other ≡ looseForm s (spacedAt s at)
+pub loose-end : (b : Bool) (s : List ℕ) (at n to : ℕ) → Value n to ≡ spacedAt s at → same (drop to s) shutText ≡ b → cond b (Loose n) Other ≡ looseForm s (spacedAt s at)
 unfolding looseForm
-loose-left s at n to e f = rw (← e, f)
+loose-end b s at n to e f = rw (← e, f)
 
-pub loose-shut : (s : List ℕ) (at n to : ℕ) → Value n to ≡ spacedAt s at → same (drop to s) shutText ≡ true → Loose n ≡ looseForm s (spacedAt s at)
-unfolding looseForm
-loose-shut s at n to e f = rw (← e, f)
-
-pub wire-left : (s : List ℕ) (at n to : ℕ) → Value n to ≡ spacedAt s at → isPoints (drop to s) ≡ false → Other ≡ wireForm s (spacedAt s at)
+pub wire-end : (b : Bool) (s : List ℕ) (at n to : ℕ) → Value n to ≡ spacedAt s at → isPoints (drop to s) ≡ b → cond b (Wire n) Other ≡ wireForm s (spacedAt s at)
 unfolding wireForm
-wire-left s at n to e f = rw (← e, f)
-
-pub wire-shut : (s : List ℕ) (at n to : ℕ) → Value n to ≡ spacedAt s at → isPoints (drop to s) ≡ true → Wire n ≡ wireForm s (spacedAt s at)
-unfolding wireForm
-wire-shut s at n to e f = rw (← e, f)
+wire-end b s at n to e f = rw (← e, f)
 
 pub track-no-sum : (s : List ℕ) (at t to : ℕ) → Value t to ≡ spacedAt s at → Missing ≡ spacedAt s to → Other ≡ trackForm s (spacedAt s at)
 unfolding trackForm sumForm
 track-no-sum s at t to e f = rw (← e, ← f)
 
-pub track-left : (s : List ℕ) (at t to n end : ℕ) → Value t to ≡ spacedAt s at → Value n end ≡ spacedAt s to → same (drop end s) shutText ≡ false → Other ≡ trackForm s (spacedAt s at)
+pub track-end : (b : Bool) (s : List ℕ) (at t to n end : ℕ) → Value t to ≡ spacedAt s at → Value n end ≡ spacedAt s to → same (drop end s) shutText ≡ b →
+    cond b (Track t n) Other ≡ trackForm s (spacedAt s at)
 unfolding trackForm sumForm
-track-left s at t to n end e f g = rw (← e, ← f, g)
-
-pub track-shut : (s : List ℕ) (at t to n end : ℕ) → Value t to ≡ spacedAt s at → Value n end ≡ spacedAt s to → same (drop end s) shutText ≡ true → Track t n ≡ trackForm s (spacedAt s at)
-unfolding trackForm sumForm
-track-shut s at t to n end e f g = rw (← e, ← f, g)
+track-end b s at t to n end e f g = rw (← e, ← f, g)
 
 pub word-track : (s : List ℕ) (at i : ℕ) → i ≡ 1 → trackForm s (spacedAt s at) ≡ formBehind s at i
 unfolding formBehind
@@ -179,18 +165,11 @@ module _ (s : List ℕ) where
   whole-rest : take (length s - 1) (drop 1 s) ≡ drop 1 s
   whole-rest = take-all (length s - 1) (drop 1 s) (omega (arith, length-drop 1 s))
 
-  pub line-opening : beginsWith 32 s ≡ false → beginsWith 40 s ≡ true → same (take (length s - 1) (drop 1 s)) (wordOf Layout 0) ≡ true → Opening ≡ layoutFormOf (readLine s)
+  pub line-opening : (b : Bool) → beginsWith 32 s ≡ false → beginsWith 40 s ≡ true → same (take (length s - 1) (drop 1 s)) (wordOf Layout 0) ≡ b →
+      cond b Opening Other ≡ layoutFormOf (readLine s)
   unfolding exactForm
-  line-opening e f g = rw (e, f, rw whole-rest at g) at (exact-form s)
+  line-opening b e f g = rw (e, f, rw whole-rest at g) at (exact-form s)
 
-  pub line-bracket : beginsWith 32 s ≡ false → beginsWith 40 s ≡ true → same (take (length s - 1) (drop 1 s)) (wordOf Layout 0) ≡ false → Other ≡ layoutFormOf (readLine s)
+  pub line-closing : (b : Bool) → beginsWith 32 s ≡ false → beginsWith 40 s ≡ false → same s shutText ≡ b → cond b Closing Other ≡ layoutFormOf (readLine s)
   unfolding exactForm
-  line-bracket e f g = rw (e, f, rw whole-rest at g) at (exact-form s)
-
-  pub line-closing : beginsWith 32 s ≡ false → beginsWith 40 s ≡ false → same s shutText ≡ true → Closing ≡ layoutFormOf (readLine s)
-  unfolding exactForm
-  line-closing e f g = rw (e, f, g) at (exact-form s)
-
-  pub line-other : beginsWith 32 s ≡ false → beginsWith 40 s ≡ false → same s shutText ≡ false → Other ≡ layoutFormOf (readLine s)
-  unfolding exactForm
-  line-other e f g = rw (e, f, g) at (exact-form s)
+  line-closing b e f g = rw (e, f, g) at (exact-form s)

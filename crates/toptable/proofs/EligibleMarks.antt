@@ -1,14 +1,15 @@
 -- Which nets are eligible, marked net after net in a new table. Assumes nothing.
 use Prim.Native.Nat.{ℕ, _+_, _≤_, _<_}
-use mathlib.Core.Path.{_≡_, _∙_}
+use mathlib.Core.Path.{_≡_, refl, _∙_}
 use mathlib.Core.Bool.{true, false}
 use mathlib.Core.List.{List}
 use native.Mathlib.Omega.{arith}
 use lib.ListN.{length, getD, set, replicate, getD-replicate}
-use lib.Seq.{getD-set-same, getD-set-other}
+use lib.Seq.{getD-set-other}
 use lib.Dec.{eqb}
 use borrow.Author.Tests.{eqb-true, eqb-false}
 use Rattle.lists.proofs.Cases.{by-test}
+use Rattle.lists.proofs.Places.{set-each}
 use Rattle.blockmap.specs.Clear.{flag}
 use Rattle.candidates.specs.Placed.{eligibleAt}
 
@@ -33,6 +34,6 @@ module _ (before placed table : List ℕ) (i : ℕ) (s : i < 512) (m : Marked be
   pub marked-take : i < length table → eligibleAt (getD before i 0) placed i ≡ true → Marked before placed (set table i 1) (i + 1)
   marked-take l e =
       record {
-        each = λ k h. by-test (eqb k i) (λ t. let w : k ≡ i = eqb-true k i t in rw (w, e) (getD-set-same table i 1 0 l)) (λ f. let w = eqb-false k i f in getD-set-other table i k 1 0 w ∙ m .each k (omega (arith, w)));
+        each = λ k h. set-each (λ k x. x ≡ flag (eligibleAt (getD before k 0) placed k)) table i 1 k l (rw e refl) (λ (w : k ≡ i → ⊥). m .each k (omega (arith, w)));
         rest = λ k h w. getD-set-other table i k 1 0 (λ (z : k ≡ i). absurd (omega arith)) ∙ m .rest k (omega arith) w;
       }

@@ -1,9 +1,10 @@
 -- `layoutforms::point_at` meets its contract: the column, the row, the bracket behind it. Assumes nothing.
 use mathlib.Core.Path.{sym, _∙_}
+use mathlib.Core.Bool.{true, false}
 use denote.Ref.{now}
 use borrow.Author.Tests.{not-true, not-false}
 use Rattle.layoutforms.proofs.NumbersRead.{byte-read, opened-read}
-use Rattle.layoutforms.proofs.Answers.{point-no-column, point-no-row, point-unshut, point-shut}
+use Rattle.layoutforms.proofs.Answers.{point-no-column, point-no-row, point-end}
 use native.Mathlib.Omega.{arith}
 use borrow.Author.Needs.{needs}
 use Rattle.layoutforms.proofs.point_at.Statement.{statement}
@@ -26,7 +27,7 @@ byte-is-requires c κs = search needs
 
 returns : tie.Need-returns
 returns c =
-    point-unshut _ _ _ _ _ _ (sym (c .before .before .before .before .before .before .before .column .given .1) ∙ c .before .before .before .before .before .before .before .before .before .opened-at .ensures) (sym (c .before .before .before .row .given .1) ∙ c .before .before .before .before .before .spaced-at .ensures)
+    point-end false _ _ _ _ _ _ (sym (c .before .before .before .before .before .before .before .column .given .1) ∙ c .before .before .before .before .before .before .before .before .before .opened-at .ensures) (sym (c .before .before .before .row .given .1) ∙ c .before .before .before .before .before .spaced-at .ensures)
     (sym (c .before .byte-is .ensures) ∙ not-true _ (c .if1 .taken))
 
 add-t14 : tie.Need-add-t14
@@ -42,7 +43,7 @@ enum-told-2 c = search needs
 
 returns-2 : tie.Need-returns-2
 returns-2 c =
-    point-shut _ _ _ _ _ _ (sym (c .before .before .before .before .before .before .before .column .given .1) ∙ c .before .before .before .before .before .before .before .before .before .opened-at .ensures) (sym (c .before .before .before .row .given .1) ∙ c .before .before .before .before .before .spaced-at .ensures)
+    point-end true _ _ _ _ _ _ (sym (c .before .before .before .before .before .before .before .column .given .1) ∙ c .before .before .before .before .before .before .before .before .before .opened-at .ensures) (sym (c .before .before .before .row .given .1) ∙ c .before .before .before .before .before .spaced-at .ensures)
     (sym (c .before .byte-is .ensures) ∙ not-false _ (c .if1 .left))
 
 returns-3 : tie.Need-returns-3

@@ -1,8 +1,9 @@
 -- `layoutforms::read_layout_line` meets its contract: a line by its first byte. Assumes nothing.
 use mathlib.Core.Path.{sym, _∙_}
+use mathlib.Core.Bool.{true, false}
 use denote.Ref.{now}
 use Rattle.layoutforms.proofs.NumbersRead.{byte-read}
-use Rattle.layoutforms.proofs.Answers.{line-inner, line-opening, line-bracket, line-closing, line-other}
+use Rattle.layoutforms.proofs.Answers.{line-inner, line-opening, line-closing}
 use native.Mathlib.Omega.{arith}
 use borrow.Author.Needs.{needs}
 use Rattle.layoutforms.proofs.read_layout_line.Statement.{statement}
@@ -37,19 +38,19 @@ is-word-requires : tie.Need-is-word-requires
 is-word-requires c κs = search needs
 
 returns-2 : tie.Need-returns-2
-returns-2 c = line-opening _ (sym (c .before .before .before .before .before .before .byte-is .ensures) ∙ c .before .before .before .before .before .if1 .left) (sym (c .before .before .before .before .byte-is2 .ensures) ∙ c .before .before .before .if2 .taken) (sym (c .before .is-word .ensures) ∙ c .if3 .taken)
+returns-2 c = line-opening _ true (sym (c .before .before .before .before .before .before .byte-is .ensures) ∙ c .before .before .before .before .before .if1 .left) (sym (c .before .before .before .before .byte-is2 .ensures) ∙ c .before .before .before .if2 .taken) (sym (c .before .is-word .ensures) ∙ c .if3 .taken)
 
 returns-3 : tie.Need-returns-3
-returns-3 c = line-bracket _ (sym (c .before .before .before .before .before .before .byte-is .ensures) ∙ c .before .before .before .before .before .if1 .left) (sym (c .before .before .before .before .byte-is2 .ensures) ∙ c .before .before .before .if2 .taken) (sym (c .before .is-word .ensures) ∙ c .if3 .left)
+returns-3 c = line-opening _ false (sym (c .before .before .before .before .before .before .byte-is .ensures) ∙ c .before .before .before .before .before .if1 .left) (sym (c .before .before .before .before .byte-is2 .ensures) ∙ c .before .before .before .if2 .taken) (sym (c .before .is-word .ensures) ∙ c .if3 .left)
 
 shut-at-requires : tie.Need-shut-at-requires
 shut-at-requires c κs = search needs
 
 returns-4 : tie.Need-returns-4
-returns-4 c = line-closing _ (sym (c .before .before .before .before .before .byte-is .ensures) ∙ c .before .before .before .before .if1 .left) (sym (c .before .before .before .byte-is2 .ensures) ∙ c .before .before .if2 .left) (sym (c .before .shut-at .ensures) ∙ c .if4 .taken)
+returns-4 c = line-closing _ true (sym (c .before .before .before .before .before .byte-is .ensures) ∙ c .before .before .before .before .if1 .left) (sym (c .before .before .before .byte-is2 .ensures) ∙ c .before .before .if2 .left) (sym (c .before .shut-at .ensures) ∙ c .if4 .taken)
 
 returns-5 : tie.Need-returns-5
-returns-5 c = line-other _ (sym (c .before .before .before .before .before .byte-is .ensures) ∙ c .before .before .before .before .if1 .left) (sym (c .before .before .before .byte-is2 .ensures) ∙ c .before .before .if2 .left) (sym (c .before .shut-at .ensures) ∙ c .if4 .left)
+returns-5 c = line-closing _ false (sym (c .before .before .before .before .before .byte-is .ensures) ∙ c .before .before .before .before .if1 .left) (sym (c .before .before .before .byte-is2 .ensures) ∙ c .before .before .if2 .left) (sym (c .before .shut-at .ensures) ∙ c .if4 .left)
 
 pub read-layout-line-spec : {M : Type 1} → statement M
 read-layout-line-spec =

@@ -2,3 +2,4 @@
 pub mod RouteSound
 pub mod RouteUnbeaten
 pub mod WorkedLayout
+pub mod WorthlessTexts

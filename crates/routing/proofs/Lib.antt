@@ -3,3 +3,4 @@ pub mod RouteSound
 pub mod RouteUnbeaten
 pub mod WorkedLayout
 pub mod WorthlessTexts
+pub mod OnlyText

@@ -2,28 +2,36 @@
 -- decides, a layout that fails it; document 01's "Worthless versions" among them. Assumes nothing.
 use Prim.Native.Nat.{ℕ, zero, suc, _+_, _≤_, _<_}
 use mathlib.Core.Path.{_≡_, refl, sym, ap, _∙_}
+use mathlib.Core.Bool.{true}
+use mathlib.Core.Option.{none, some, Option·some-injective, Option·none-ne-some}
 use mathlib.Core.List.{List, [], _∷_, map, List·Memᴰ, List·Memᴰ·head, List·Memᴰ·tail}
 use native.Mathlib.Omega.{arith}
+use lib.Dec.{leb}
 use lib.ListN.{length, getD, take}
-use Rattle.lists.specs.Lists.{firstOf}
+use borrow.Author.Tests.{le-leb}
+use Rattle.lists.specs.Lists.{Each, firstOf}
+use Rattle.lists.proofs.Laws.{Each-map}
+use Rattle.board.specs.declared.Net.{Net}
 use Rattle.board.specs.Length.{width, upper, lower, span, plainLength, lengthOf, shortest, needed, worth}
 use Rattle.board.specs.Job.{Job}
 use Rattle.board.specs.Placement.{Placement, placementAt, shortestAt}
 use Rattle.board.specs.Accepted.{AcceptedJob}
 use Rattle.board.specs.Unbeaten.{FilledTrack}
-use Rattle.board.specs.WorkedBoard.{workedBoard, workedJob, net3}
-use Rattle.board.specs.RivalExamples.{track1, track2, longer3}
+use Rattle.board.specs.WorkedBoard.{workedBoard, workedJob}
+use Rattle.board.specs.RivalExamples.{track1, track2}
 use Rattle.board.proofs.RivalFacts.{track1-rival, track2-rival}
 use Rattle.board.proofs.ShortestShape.{shortest-least, length-injective}
 use Rattle.board.proofs.Tops.{accepted-shortest}
-use Rattle.text.specs.Bytes.{bytes}
+use Rattle.text.specs.Bytes.{bytes, same, joined, pieces, nonEmpty}
+use Rattle.text.specs.Digits.{digitsIn, digits, valueFrom}
 use Rattle.layout.specs.Tree.{Wire, DrawnTrack, Layout}
-use Rattle.layout.specs.LayoutText.{lineText, linesText, layoutLines, layoutText}
+use Rattle.layout.specs.LayoutText.{lineText, linesText, tracksThen, looseThen, layoutLines, layoutText}
+use Rattle.layout.specs.ReadBack.{wordsIn, pointsOf, lineFrom, roughLine, add, gathered, roughLayout, smallLine, smallLines, readLayout}
 use Rattle.layout.specs.Drawing.{pointsOn, wireOf}
 use Rattle.layout.specs.Drawn.{netNumbered}
 use Rattle.layout.proofs.RoundTrip.{layout-text-injective}
 use Rattle.sound.specs.Wires.{RivalWires, worthBy, worthOf, sumOver, trackNumbers, wiresSum}
-use Rattle.routing.specs.DrawnTracks.{noTrack}
+use Rattle.routing.specs.DrawnTracks.{drawnTracks, noTrack}
 use Rattle.routing.specs.Promises.{ShortestWire, ShortestText, OptimalTrack, UnbeatenText}
 
 -- ---- the layouts
@@ -133,3 +141,43 @@ shortest-drawn job a t w s =
 pub begins-as-layout : (job : Job) (plan : List FilledTrack) (text : List ℕ) → ShortestText job plan text → take 8 text ≡ bytes "(layout\n"
 unfolding layoutText layoutLines linesText lineText
 begins-as-layout job plan text s = rw (s .rendered)
+
+-- so every wire of the layout that reading gives draws a net of the job in its shortest shape, on the track of its place
+pub record DrawnShortest (job : Job) (t : ℕ) (w : Wire) : Type 0 where
+  pub net : Net
+  pub top : ℕ
+  pub of-job : List·Memᴰ net (job .nets)
+  pub drawn-is : w ≡ wireOf (job .board) t (shortestAt (job .board) net top)
+
+module _ (job : Job) (plan : List FilledTrack) (text : List ℕ) (s : ShortestText job plan text) (l : Layout) (e : readLayout text ≡ some l) where
+  same-layout : s .layout ≡ l
+  same-layout = Option·some-injective (s .layout) l (sym (s .read) ∙ e)
+
+  pub read-shortest : AcceptedJob job → (i : ℕ) → i < job .board .tracks → Each (DrawnShortest job (suc i)) (getD (l .tracks) i noTrack .wires)
+  read-shortest a i h =
+      Each-map (getD (l .tracks) i noTrack .wires)
+      (λ w (q : ShortestWire job (suc i) w).
+      record { net = q .place .net; top = q .place .top; of-job = q .of-job; drawn-is = shortest-drawn job a (suc i) w q })
+      (rw same-layout at (s .wires-shortest i h))
+
+  -- and its tracks are those planned
+  pub read-planned : l .tracks ≡ drawnTracks (job .board) 1 plan
+  read-planned = sym (ap (λ (x : Layout). x .tracks) same-layout) ∙ s .planned
+
+-- such a text is never above the length that check takes
+pub fits-check : (job : Job) (plan : List FilledTrack) (text : List ℕ) → ShortestText job plan text → leb (length text) 64000 ≡ true
+fits-check job plan text s = le-leb (length text) 64000 (s .bytes-most)
+
+-- ---- reading back
+
+-- a number of seven digits is not read
+pub seven-digits : readLayout (layoutText (laid [] (1000000 ∷ []))) ≡ none
+unfolding readLayout roughLayout gathered add roughLine lineFrom pointsOf wordsIn pieces joined nonEmpty same valueFrom smallLines smallLine layoutText layoutLines linesText tracksThen looseThen lineText digits digitsIn
+seven-digits = refl
+
+-- so neither demand holds of a text with one
+pub seven-digits-shortest : (job : Job) (plan : List FilledTrack) → ShortestText job plan (layoutText (laid [] (1000000 ∷ []))) → ⊥
+seven-digits-shortest job plan s = Option·none-ne-some (s .layout) (sym seven-digits ∙ s .read)
+
+pub seven-digits-unbeaten : (job : Job) → UnbeatenText job (layoutText (laid [] (1000000 ∷ []))) → ⊥
+seven-digits-unbeaten job u = Option·none-ne-some (u .layout) (sym seven-digits ∙ u .read)

@@ -34,8 +34,7 @@ module _ (job : Job) (a : AcceptedJob job) (m : Net) (i : List·Memᴰ m (job .n
     unfolding wireOf
     place-free p j n k e =
         let q = Each-at (SoundPlacement job earlier t) (s .places) p (s .placed) j in
-        let same : n ≡ p .net = same-number (job .nets) (a .numbers-rise) n (p .net) k (q .of-job) e in
-        (
+        let same : n ≡ p .net = same-number (job .nets) (a .numbers-rise) n (p .net) k (q .of-job) e in (
           λ right. out (Memᴰ·append-left (wireNumbers (tr .wires)) (q .ready m i (record { another = other-net p j; meets = sym right ∙ ap (λ (x : Net). x .right .0) same }))),
           λ left. other-net p j (sym (ap (λ (x : Net). x .number) (same-key (λ (x : Net). x .left .0) (job .nets) (a .lefts-differ) n m k i left)) ∙ e),
         )

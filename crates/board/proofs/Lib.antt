@@ -7,3 +7,4 @@ pub mod StoredJobs
 pub mod ExactTests
 pub mod RivalTests
 pub mod RivalFacts
+pub mod AcceptedFacts

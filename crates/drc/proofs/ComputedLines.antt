@@ -63,6 +63,11 @@ pub other-number : brokenLines workedJob (bytes "(layout\n (track 1 9)\n (wire 7
 unfolding computedLines
 other-number = refl
 
+-- a wire of no net counts 0: the sum of the two others is true
+pub other-number-counts-nothing : brokenLines workedJob (bytes "(layout\n (track 1 6)\n (wire 7 (0 2) (1 2) (1 4) (5 4))\n (wire 2 (0 6) (1 6) (1 5) (2 5) (2 8) (1 8) (5 8))\n (wire 3 (0 9) (1 9) (1 10) (5 10))\n (track 2 2)\n (wire 4 (0 3) (3 3) (3 2) (5 2))\n (loose 5)\n)\n") ≡ 3 ∷ 7 ∷ 9 ∷ []
+unfolding computedLines
+other-number-counts-nothing = refl
+
 -- behind a line not of the form nothing is judged
 pub judging-closed : brokenLines workedJob (bytes "(layout\n (track 1 9)\n (wire 1 (0 2) (1 2) (1 4) (5 4))\n (wire 2 (0 6) (1 6) (2 6) (2 9) (1 9) (1 8) (5 8))\n (wire 3 (0 9) (1 9) (1 10) (5 10))\n (track 2  2)\n (wire 4)\n (loose 5)\n)\n") ≡ 5 ∷ 6 ∷ []
 unfolding computedLines

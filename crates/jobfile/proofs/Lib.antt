@@ -11,3 +11,4 @@ pub mod LineFaults
 pub mod Refusals
 pub mod Returned
 pub mod Texts
+pub mod RightOnly

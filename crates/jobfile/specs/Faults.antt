@@ -110,7 +110,8 @@ pub data LineFault (above : List Form) (k : ℕ) : Form → Outcome → Type 0 w
       LineFault above k (Is.Net i l r lo hi) o
   of-block : {t a b : ℕ} {o : Outcome} → BlockFault (jobIn above) (blockOf t a b) k o → LineFault above k (Is.Block t a b) o
 
--- the faults of a text: its length, those of its lines, and that it ends before its last line
+-- the faults of a text: its length, those of its lines, and, at the line after the last, that its lines are no whole job: the text ends early
+-- where no line above is faulty
 pub data Fault (text : List ℕ) : Outcome → Type 0 where
   too-long : 64000 < length text → Fault text TooLong
   on-line : (above below : List Form) (f : Form) {o : Outcome} → formsOf text ≡ above ++ (f ∷ below) →

@@ -1,4 +1,5 @@
 -- Document 01, "Operations", read: what an answer of read is to be, said of the faults of the text and not of how it is read.
+-- proofs/RightOnly.antt shows that one outcome and one job are right.
 use Prim.Native.Nat.{ℕ}
 use mathlib.Core.Path.{_≡_}
 use mathlib.Core.List.{List}

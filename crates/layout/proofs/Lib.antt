@@ -3,3 +3,4 @@ pub mod RoundTrip
 pub mod WorkedText
 pub mod DrawnOnce
 pub mod DrawnLength
+pub mod OnGrid

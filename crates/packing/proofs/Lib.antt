@@ -5,3 +5,4 @@ pub mod WalkIsRival
 pub mod ByRow
 pub mod OnePass
 pub mod Bounded
+pub mod StepOnly

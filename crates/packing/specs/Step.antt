@@ -1,5 +1,5 @@
 -- Document 01, "Choosing a track", as the document says it: best(j), and the step of the walk at row j. Proved in proofs/ByRow.antt of
--- the definitions in Best.antt and Walk.antt.
+-- the definitions in Best.antt and Walk.antt; proofs/StepOnly.antt shows that one sum is the largest and that one walk takes these steps.
 use Prim.Native.Nat.{ℕ, _+_, _≤_}
 use mathlib.Core.Path.{_≡_}
 use mathlib.Core.List.{List, _∷_, List·Memᴰ}

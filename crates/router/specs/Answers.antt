@@ -15,7 +15,7 @@ use Rattle.router.specs.declared.RouteAnswer.{RouteAnswer}
 use Rattle.router.specs.declared.RouteAnswer.the-variants.{Refused, TooSmall, Routed}
 
 -- what an answer says in the document's numbers: the number of a refusal, 0 where nothing is refused; the line that it names, 0 where it
--- names none; and a length, that of the layout written, or the one needed
+-- names none; and a length, that of the layout written, or the one needed, 0 where read refuses
 pub record RouteValues : Type 0 where
   pub number : ℕ
   pub line : ℕ
@@ -52,7 +52,7 @@ RightFor text (TooSmall n) = ((o : Outcome) → Fault text o → ⊥) × (n ≤ 
 RightFor text (Routed n) = ((o : Outcome) → Fault text o → ⊥) × (n ≤ 64000)
 
 -- P holds of the job and of the text written: where the job file is accepted and the answer is a length, the first bytes of the buffer,
--- as many as the answer says
+-- as many as the answer says; elsewhere nothing is written, and nothing is asked
 abbrev pub OfWritten : (Job → List ℕ → Type 0) → Read → RouteAnswer → List ℕ → Type 0
 OfWritten P (accepted job) (Routed n) out = P job (take n out)
 OfWritten P (accepted job) (TooSmall n) out = Unit {0}

@@ -2,3 +2,5 @@
 pub mod RouteSound
 pub mod RouteUnbeaten
 pub mod WorkedLayout
+pub mod WorthlessTexts
+pub mod OnlyText

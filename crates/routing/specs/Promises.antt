@@ -1,5 +1,5 @@
 -- Demands 2 and 3 on the bytes of a layout: what route promises of the text that it writes. Nothing here looks at how a track is chosen:
--- `plan` stands for any list of filled tracks.
+-- `plan` stands for any list of filled tracks. proofs/WorthlessTexts.antt has texts that each clause shuts out.
 use Prim.Native.Nat.{ℕ, suc, _≤_, _<_}
 use mathlib.Core.Path.{_≡_}
 use mathlib.Core.Option.{some}

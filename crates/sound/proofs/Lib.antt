@@ -3,3 +3,4 @@ pub mod Sums
 pub mod Nets
 pub mod Balance
 pub mod Bounds
+pub mod LooseRuns

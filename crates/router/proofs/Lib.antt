@@ -1,2 +1,3 @@
 -- Laws of route's answer.
 pub mod Answering
+pub mod TakenOut

@@ -133,7 +133,7 @@ module _ (job layout : List ℕ) where
   values-as : (y : Read) → checkValues (checkAnswer y layout) ≡ documentVerdict y layout
   unfolding checkAnswer documentVerdict
   values-as (refused o) = refl
-  values-as (accepted j) = by-test (leb (length layout) 64000) (λ t. rw t (values-of (judge j layout))) (λ t. rw t)
+  values-as (accepted j) = by-test (leb (length layout) 64000) (λ t. rw t (values-of (judge j layout))) (λ t. rw t refl)
 
   -- and of an answer that is given
   pub right-verdict : (a : CheckAnswer) → a ≡ checkAnswer (readJob job) layout →

@@ -3,7 +3,7 @@
 #
 #     bench/boards.sh SECOND_ROUTER STDIN STDOUT
 #
-# SECOND_ROUTER is the folder of the second router, which other hands wrote from document 01 (its sources stand in src/, its jobs in
+# SECOND_ROUTER is the folder of the second router, which others wrote from document 01 (its sources stand in src/, its jobs in
 # vectors/). STDIN is the file of job texts to be made, each text ended by byte 255, which stands in no text; STDOUT the file of what the
 # second router prints for them, one answer behind the other: a layout, or a line `(refused number line)`. Nothing of STDOUT comes from
 # the code in this repository.

@@ -1,6 +1,6 @@
 #!/usr/bin/env python3
 # Makes stdin and stdout of this program:  make-stdin.py ROUTER VECTORS
-# ROUTER is the program of the second router, which other hands wrote from document 01; VECTORS is its folder of jobs.
+# ROUTER is the program of the second router, which others wrote from document 01; VECTORS is its folder of jobs.
 # stdin has those jobs, jobs that ROUTER generates, and the texts below, each ended by byte 255. stdout has what ROUTER says of each:
 # its refusal, or (accepted) where it prints a layout. Nothing of stdout comes from the code in this repository.
 import glob, os, subprocess, sys

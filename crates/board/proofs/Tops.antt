@@ -48,16 +48,6 @@ some-top board n s r h =
     let e = span-add n in
     omega arith
 
--- and where it does not it has none
-pub no-top : (board : Board) (n : Net) (s : Shape) → board .rows < covered n s → lastTop board n s < firstTop n s
-unfolding firstTop lastTop
-no-top board n s h = omega arith
-
--- so a placement fits into the rows of the board
-pub legal-fits : (board : Board) (p : Placement) → Legal board p → covered (p .net) (p .shape) ≤ board .rows
-unfolding covered
-legal-fits board p l = omega arith
-
 -- a top row is a row of the board, and leaves room for the rows covered
 pub record TopInRange (board : Board) (n : Net) (s : Shape) (top : ℕ) : Type 0 where
   pub from-one : 1 ≤ top
@@ -86,12 +76,6 @@ accepted-fits board n a =
 -- a shortest placement covers the net's needed rows
 pub shortest-bottom : (board : Board) (n : Net) (top : ℕ) → bottom (shortestAt board n top) + 1 ≡ top + needed board n
 shortest-bottom board n top = omega (arith, bottom-covered (shortestAt board n top), needed-covered board n)
-
--- an accepted net can be placed at each of its tops
-pub accepted-legal : (board : Board) (n : Net) (top : ℕ) → AcceptedNet board n →
-    firstTop n (shortest board n) ≤ top → top ≤ lastTop board n (shortest board n) → Legal board (shortestAt board n top)
-accepted-legal board n top a b c =
-    tops-legal board (shortestAt board n top) (record { allowed = accepted-shortest board n a; from-first = b; to-last = c })
 
 -- a placement at any allowed length holds one at the shortest
 pub shrink : (board : Board) (p : Placement) → Legal board p → Shrunk board p (shrunk board p)

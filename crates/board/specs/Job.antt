@@ -8,7 +8,7 @@ use Rattle.board.specs.declared.Board.{Board}
 use Rattle.board.specs.declared.Net.{Net}
 use Rattle.board.specs.declared.Block.{Block}
 
--- a job: its board, its nets by rising number, its blocks
+-- a job: its board, its nets and its blocks, in the order of their lines
 pub record Job : Type 0 where
   pub board : Board
   pub nets : List Net

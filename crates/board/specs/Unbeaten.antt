@@ -7,7 +7,7 @@ use Rattle.board.specs.Job.{Job}
 use Rattle.board.specs.Placement.{Placement}
 use Rattle.board.specs.Rival.{Rival, rivalSum}
 
--- a filled track: its sum, and its wires by rising top row
+-- a filled track: its sum and its wires
 pub record FilledTrack : Type 0 where
   pub sum : ℕ
   pub wires : List Placement

@@ -6,11 +6,11 @@ ghost use Rattle.board.specs.Placement as placements;
 ghost use Rattle.board.specs.Accepted.{BoardInRange, NetInRange};
 
 // A row of the channel, 1 to 1,024 from the top; its bit and array index are row − 1. Another number stands only in an unused slot of a job by
-// value (0), and in the net or block of a line that is not yet tested, which `reader::take_form` makes from the numbers of the line.
+// value (0), in a wire of a layout text that is not yet tested, and in the net or block of a line that is not yet tested, which `reader` makes from the numbers of the line.
 pub struct Row(pub usize);
 
-// A track of the channel, 1 to 128 from the left. Another number stands only in an unused slot of a job by value (0), and in the block of a
-// line that is not yet tested.
+// A track of the channel, 1 to 128 from the left. Another number stands only in an unused slot of a job by value (0), in the block of a
+// line that is not yet tested, and in `checker`, where no track line stands above (0).
 pub struct Track(pub usize);
 
 // The size of the channel: H rows and K tracks.

@@ -29,6 +29,7 @@ fn room() -> [u8; 1048576] {
     [0u8; 1048576]
 }
 
+// Prints the layout or the refusal of each job on standard input.
 fn main() {
     let mut input = room();
     let n = io::read_full(STDIN_FILENO, &mut input);

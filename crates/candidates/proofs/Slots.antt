@@ -4,7 +4,7 @@ use mathlib.Core.Path.{_≡_, refl, sym, ap, _∙_}
 use mathlib.Core.Bool.{Bool, true≢false}
 use mathlib.Core.List.{List, [], _∷_, _++_, map, map-append}
 use native.Mathlib.Omega.{arith}
-use lib.ListN.{length, getD, take, drop, set, replicate, length-append, length-map, length-drop, length-replicate}
+use lib.ListN.{length, getD, take, drop, set, replicate, length-append, length-map, length-drop}
 use lib.Seq.{length-take-le, append-snoc}
 use Rattle.lists.proofs.Cases.{by-test}
 use Rattle.board.specs.declared.Board.{Board}
@@ -68,11 +68,6 @@ arrays-more board c xs x tops e h t =
     let f = array-more (λ y. firstTop (y .net) (shortest board (y .net))) xs x (tops .first .0) h (t .first) in
     let l = array-more (λ y. lastTop board (y .net) (shortest board (y .net))) xs x (tops .last .0) h (t .last) in
     ap (λ d. withSlot d x tops) e ∙ (λ i. record { count = n i; net = a i; need = b i; worth = w i; first = f i; last = l i })
-
--- the arrays have 512 slots, as many candidates as counted
-padded-size : (d : ℕ) (xs : List ℕ) → length xs ≤ 512 → length (padded d xs) ≡ 512
-unfolding padded
-padded-size d xs h = length-append xs (replicate (512 - length xs) d) ∙ ap (λ n. length xs + n) (length-replicate (512 - length xs) d) ∙ omega arith
 
 -- ---- the flags of one more candidate
 -- part i, flagged by the block map, is that of the candidate

@@ -25,6 +25,7 @@ pub enum CheckAnswer {
     Refused(Outcome),
     // refusal 11: the layout text is above 64,000 bytes
     LayoutTooLong,
+    // the layout is sound
     Passes,
     // broken at a line
     Broken(usize),

@@ -28,7 +28,7 @@ unfoldable pub placeOf : Option Placement → DrawnPlace
 placeOf none = Nothing
 placeOf (some p) = At (record { 0 = p .top }) (p .shape)
 
--- the one placement of a net that points can draw, from the rows in which they come to the wire column and leave it
+-- the one placement of a net that points can draw, from the rows of the first and of the last point in the wire column
 unfoldable pub onlyPlace : Net → ColumnRows → OnlyPlace
 onlyPlace n rows =
     cond (rows .found)

@@ -41,7 +41,7 @@ unfolding samePoints
 samePoints-refl [] = refl
 samePoints-refl (p ∷ ps) = and-both (samePoint p p) (samePoints ps ps) (samePoint-refl p) (samePoints-refl ps)
 
-placement-net : (t : ℕ) (n : Net) (ps : List Point) → placementOf t n ps .net ≡ n
+pub placement-net : (t : ℕ) (n : Net) (ps : List Point) → placementOf t n ps .net ≡ n
 unfolding placementOf placementFrom
 placement-net t n ps = by-option (firstIn (wireColumn t) ps) (λ e. rw (e, placementFrom)) (λ u e. rw (e, placementFrom))
 

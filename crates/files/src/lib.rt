@@ -1,12 +1,14 @@
 // Files read whole.
+ghost use mathlib.Core.Path.{_≡_};
 ghost use Prim.Native.Nat.{_≤_};
 ghost use lib.ListN.{take};
 ghost use Rattle.io.specs.Counts.{Counts};
 ghost use Rattle.text.specs.Written.{Written};
 ghost use Rattle.files.specs.Unopened.{EmptyUnopened};
 
-fn least(a: usize, b: usize) -> usize
-    ensures { λ r. ⌜ (r ≤ a) × (r ≤ b) ⌝ }
+// The smaller of two numbers.
+fn lesser(a: usize, b: usize) -> usize
+    ensures { λ r. ⌜ (r ≤ a) × (r ≤ b) × ((a ≤ b → r ≡ a) × (b ≤ a → r ≡ b)) ⌝ }
 {
     if a < b { a } else { b }
 }
@@ -24,7 +26,7 @@ pub fn read_from(fd: i32, out: &mut [u8]) -> usize
     let mut bytes = io::large_buffer();
     let n = io::read_full(fd, &mut bytes);
     libc::close(fd);
-    let fitting = least(n, out.len());
+    let fitting = lesser(n, out.len());
     text::put_bytes(out, &bytes[..fitting])
 }
 

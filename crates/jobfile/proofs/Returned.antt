@@ -4,14 +4,12 @@ use Prim.Native.Nat.{ℕ}
 use mathlib.Core.Path.{_≡_, refl, sym, ap, _∙_}
 use mathlib.Core.List.{List}
 use native.Mathlib.Omega.{arith}
-use Rattle.board.specs.Accepted.{AcceptedJob}
 use Rattle.board.specs.Stored.{jobOf, storedOf, AcceptedStored}
 use Rattle.jobfile.specs.declared.Answer.{Answer}
 use Rattle.jobfile.specs.declared.Outcome.{Outcome}
 use Rattle.jobfile.specs.declared.Outcome.the-variants as Is
 use Rattle.jobfile.specs.Read.{Read, accepted, refused, readJob}
 use Rattle.jobfile.specs.Answers.{numberOf, answerOf, answer, noJob}
-use Rattle.jobfile.specs.Faults.{FirstFault}
 use Rattle.jobfile.specs.RightAnswer.{RightAnswer}
 use Rattle.jobfile.proofs.Accepts.{read-accepted}
 use Rattle.board.proofs.StoredJobs.{job-back, stored-accepted}
@@ -30,9 +28,6 @@ module _ (text : List ℕ) where
       by (accepted job) e q = ap accepted (sym (job-back job))
       by (refused o) e q = absurd (refused-number o e q)
 
-  pub returned-accepted : answer text .outcome ≡ Is.Accepted → AcceptedJob (jobOf (answer text .job))
-  returned-accepted q = read-accepted text (jobOf (answer text .job)) (returned-job q)
-
   pub returned-refused : (answer text .outcome ≡ Is.Accepted → ⊥) → readJob text ≡ refused (answer text .outcome)
   unfolding answerOf
   returned-refused = by (readJob text)
@@ -49,9 +44,6 @@ module _ (text : List ℕ) where
       by : (y : Read) → (answerOf y .outcome ≡ Is.Accepted → ⊥) → answerOf y .job ≡ storedOf noJob
       by (accepted job) q = absurd (q refl)
       by (refused o) q = refl
-
-  pub returned-first : (answer text .outcome ≡ Is.Accepted → ⊥) → FirstFault text (answer text .outcome)
-  returned-first q = read-refused text (answer text .outcome) (returned-refused q)
 
 -- what a caller of read holds: its answer, and the number of the outcome
 module _ (text : List ℕ) (a : Answer) (n : ℕ) (e : a ≡ answerOf (readJob text)) (f : n ≡ numberOf (a .outcome)) where

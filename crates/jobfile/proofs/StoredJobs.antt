@@ -4,12 +4,11 @@ use Prim.Native.Nat.{ℕ, suc, _+_, _-_, _≤_, _<_}
 use mathlib.Core.Path.{_≡_, refl, sym, _∙_}
 use mathlib.Core.List.{List, [], _∷_, _++_, append-assoc}
 use native.Mathlib.Omega.{arith}
-use lib.ListN.{length, replicate, set, length-append, length-replicate}
+use lib.ListN.{length, replicate, set, length-append}
 use lib.Seq.{set-at}
 use Rattle.board.specs.declared.Net.{Net}
 use Rattle.board.specs.declared.Block.{Block}
 use Rattle.board.specs.Job.{Job}
-use Rattle.board.specs.Accepted.{AcceptedJob}
 use Rattle.jobfile.specs.Read.{withNet, withBlock}
 use Rattle.board.specs.Stored.{storedOf, noNet, noBlock}
 
@@ -17,9 +16,6 @@ module _ {A : Type 0} (most : ℕ) (xs : List A) (none : A) where
   -- a list filled up to its full length
   abbrev filledUp : List A
   filledUp = xs ++ replicate (most - length xs) none
-
-  filled-length : length xs ≤ most → length filledUp ≡ most
-  filled-length h = omega (arith, length-append xs (replicate (most - length xs) none), length-replicate (most - length xs) none)
 
   -- one more element takes the first slot that is not used
   filled-next : (x : A) → length xs < most →
@@ -29,15 +25,6 @@ module _ {A : Type 0} (most : ℕ) (xs : List A) (none : A) where
       let e : most - length xs ≡ suc r = omega arith in
       let g : most - length (xs ++ (x ∷ [])) ≡ r = omega (arith, length-append xs (x ∷ [])) in
       rw (e, g) (set-at xs none (replicate r none) x (length xs) refl ∙ sym (append-assoc xs (x ∷ []) (replicate r none)))
-
--- the arrays are full
-pub stored-nets : (job : Job) → AcceptedJob job → length (storedOf job .nets) ≡ 512
-unfolding storedOf
-stored-nets job a = filled-length 512 (job .nets) noNet (a .nets-count)
-
-pub stored-blocks : (job : Job) → AcceptedJob job → length (storedOf job .blocks) ≡ 256
-unfolding storedOf
-stored-blocks job a = filled-length 256 (job .blocks) noBlock (a .blocks-count)
 
 -- a net more, and a block more
 pub stored-net : (job : Job) (n : Net) → length (job .nets) < 512 →

@@ -67,11 +67,11 @@ settledOf j = cond (eqb (j .sum) (j .printed)) (cond (eqb (j .breach) 0) j (brok
 abbrev pub isTrackTurn : ℕ → LinesJudged → ℕ → Bool
 isTrackTurn k j u = eqb (j .stage) 1 && (eqb (j .last) 0 && (eqb u (j .track + 1) && leb u k))
 
--- a wire can
+-- a wire can stand behind the lines that j keeps, on a board with k tracks
 abbrev pub isWireTurn : ℕ → LinesJudged → Bool
 isWireTurn k j = eqb (j .stage) 1 && (eqb (j .last) 0 && leb 1 (j .track) && leb (j .track) k)
 
--- a loose line or the closing line can
+-- a loose line or the closing line can stand behind the lines that j keeps, on a board with k tracks
 abbrev pub isEndTurn : ℕ → LinesJudged → Bool
 isEndTurn k j = eqb (j .stage) 1 && eqb (j .track) k
 
@@ -90,6 +90,6 @@ pub record NetFits (board : Board) (found : NetFound) (top : ℕ) (s : Shape) : 
   pub from-one : 1 ≤ top
   pub to-last : bottom (placementAt (found .net) s top) ≤ board .rows
 
--- the words are the block map of track t
+-- of every row: its bit is set exactly if it is blocked on track t
 abbrev pub MapIs : Job → ℕ → List ℕ → Type 0
 MapIs job t words = (row : ℕ) → isSet words row ≡ blocked job t row

@@ -24,13 +24,18 @@ use board::Row;
 use board::Shape;
 use board::StoredJob;
 
-// How far the lines above go: nothing yet, behind `(layout`, behind `)`; or the verdict stands: the layout is broken.
+// The stages: how far the lines above go.
+
+// Nothing stands above.
 const UNBEGUN: usize = 0;
 
+// `(layout` stands above, and `)` does not.
 const RUNNING: usize = 1;
 
+// `)` stands above.
 pub const FINISHED: usize = 2;
 
+// The verdict stands: the layout is broken.
 pub const DECIDED: usize = 3;
 
 // What is kept of the lines above: their stage; the last track line, its track, its line, the sum that it prints and the sum of its wires

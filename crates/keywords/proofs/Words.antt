@@ -52,10 +52,6 @@ found-from i (w ∷ ws) s =
     let z : r - i ≡ suc (r - suc i) = omega arith in
     rw e (record { from = omega arith; to = omega arith; word = λ h. rw z (f .word (omega arith)) }))
 
-pub find-at-most : (v : Vocabulary) (s : List ℕ) → findWord v s ≤ length (words v)
-unfolding findWord
-find-at-most v s = let f = found-from 0 (words v) s in omega arith
-
 pub find-word : (v : Vocabulary) (s : List ℕ) → findWord v s < length (words v) → wordOf v (findWord v s) ≡ s
 unfolding findWord wordOf
 find-word v s h =

@@ -13,7 +13,7 @@ use Rattle.board.specs.declared.Shape.{Shape}
 use Rattle.board.specs.declared.Shape.the-variants.{Plain, Stretched}
 use Rattle.board.specs.Length.{width, upper, span}
 use Rattle.board.specs.Job.{Job}
-use Rattle.board.specs.Placement.{Placement, bottom, Legal}
+use Rattle.board.specs.Placement.{Placement, bottom}
 use Rattle.board.proofs.ShortestShape.{span-add}
 use Rattle.layout.specs.Tree.{Point, Wire}
 use Rattle.layout.specs.Drawing.{viaColumn, wireColumn, at, samePoint, distinctFrom, nearRow, farRow, corners, pointsOn, wireOf}
@@ -125,6 +125,3 @@ module _ (job : Job) (t : ℕ) (on-track : 1 ≤ t) where
   drawn-once p q f g n e =
       let same : pointsOn (job .board) t p ≡ pointsOn (job .board) t q = ap (λ (w : Wire). w .points) e in
       sym (placement-back p f) ∙ ap₂ (placementOf t) n same ∙ placement-back q g
-
-pub legal-fixed : (job : Job) (p : Placement) → Legal (job .board) p → Fixed p
-legal-fixed job p l = record { over-upper = l .over-upper; under-lower = l .under-lower }

@@ -24,9 +24,9 @@ pub record OnGrid (board : Board) (q : Point) : Type 0 where
   pub to-row : q .row ≤ board .rows
 
 -- the point is at the right pin, or in a column of track t on a row that p covers: the two vias and all between them
-pub data Placed (board : Board) (t : ℕ) (p : Placement) (q : Point) : Type 0 where
-  right-pin : q .column ≡ width board → q .row ≡ p .net .right .0 → Placed board t p q
-  on-track : viaColumn t ≤ q .column → q .column ≤ wireColumn t → p .top ≤ q .row → q .row ≤ bottom p → Placed board t p q
+pub data AtPinOrTrack (board : Board) (t : ℕ) (p : Placement) (q : Point) : Type 0 where
+  right-pin : q .column ≡ width board → q .row ≡ p .net .right .0 → AtPinOrTrack board t p q
+  on-track : viaColumn t ≤ q .column → q .column ≤ wireColumn t → p .top ≤ q .row → q .row ≤ bottom p → AtPinOrTrack board t p q
 
 -- what holds of all points holds where equal neighbours are left out
 distinct-each : (P : Point → Type 0) (p : Point) (qs : List Point) → Each P qs → Each P (distinctFrom p qs)
@@ -64,23 +64,23 @@ module _ (board : Board) (t : ℕ) (p : Placement) (low : 1 ≤ t) (high : t ≤
       let all = left-covered in
       by-test (ltb (p .net .left .0) (p .net .right .0)) (λ e. rw e (omega arith, omega arith)) (λ e. rw e (omega arith, omega arith))
 
-  via : (row : ℕ) → (p .top ≤ row) × (row ≤ bottom p) → Placed board t p (at (viaColumn t) row)
+  via : (row : ℕ) → (p .top ≤ row) × (row ≤ bottom p) → AtPinOrTrack board t p (at (viaColumn t) row)
   via row c = let k = columns in on-track (omega arith) (omega arith) (c .0) (c .1)
 
-  wired : (row : ℕ) → (p .top ≤ row) × (row ≤ bottom p) → Placed board t p (at (wireColumn t) row)
+  wired : (row : ℕ) → (p .top ≤ row) × (row ≤ bottom p) → AtPinOrTrack board t p (at (wireColumn t) row)
   wired row c = let k = columns in on-track (omega arith) (omega arith) (c .0) (c .1)
 
-  corners-placed : (s : Shape) → Each (Placed board t p) (corners board t p s)
+  corners-placed : (s : Shape) → Each (AtPinOrTrack board t p) (corners board t p s)
   unfolding corners
   corners-placed Plain = (via _ left-covered, (via _ right-covered, (right-pin refl refl, tt)))
   corners-placed (Stretched e) =
       (via _ left-covered, (via _ near-covered, (wired _ near-covered, (wired _ far-covered, (via _ far-covered, (via _ right-covered, (right-pin refl refl, tt)))))))
 
   -- the points behind the first, which is the left pin
-  pub drawn-placed : Each (Placed board t p) (distinctFrom (at 0 (p .net .left .0)) (corners board t p (p .shape)))
-  drawn-placed = distinct-each (Placed board t p) (at 0 (p .net .left .0)) (corners board t p (p .shape)) (corners-placed (p .shape))
+  pub drawn-placed : Each (AtPinOrTrack board t p) (distinctFrom (at 0 (p .net .left .0)) (corners board t p (p .shape)))
+  drawn-placed = distinct-each (AtPinOrTrack board t p) (at 0 (p .net .left .0)) (corners board t p (p .shape)) (corners-placed (p .shape))
 
-  on-grid : (q : Point) → Placed board t p q → OnGrid board q
+  on-grid : (q : Point) → AtPinOrTrack board t p q → OnGrid board q
   on-grid q (right-pin c r) =
       let k = right-covered in
       record { to-width = omega arith; from-row = omega (arith, l .from-one); to-row = omega (arith, l .to-last) }

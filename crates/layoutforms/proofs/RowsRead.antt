@@ -21,7 +21,7 @@ use Rattle.layout.proofs.RoundTrip.{points-read, read-line-sound, digits-inner}
 use Rattle.layoutforms.specs.declared.ColumnRows.{ColumnRows}
 use Rattle.layoutforms.specs.declared.LayoutPoint.the-variants.{Stands, Absent}
 use Rattle.layoutforms.specs.Exact.{shutText, pointAt, pointsIn, isPoints}
-use Rattle.layoutforms.specs.Rows.{noRows, rowsFrom, rowsIn, withPoint, withPoints, PointRows, RowsOf}
+use Rattle.layoutforms.specs.Rows.{noPoint, rowsFrom, rowsIn, withPoint, withPoints, PointRows, RowsOf}
 use Rattle.layoutforms.proofs.NumbersRead.{until-then}
 use Rattle.layoutforms.proofs.PointsRead.{point-read, points-more, still-points, points-are, points-end, points-none}
 use Rattle.layoutforms.proofs.ExactForms.{first-byte}
@@ -48,11 +48,11 @@ column-later : (c : ℕ) (p : Point) (ps : List Point) → eqb (p .column) c ≡
 unfolding rowsIn firstIn
 column-later c p ps e = rw e (column-skip c p ps (firstIn c ps) e)
 
-rows-end : (c : ℕ) → noRows ≡ rowsIn c []
+rows-end : (c : ℕ) → noPoint ≡ rowsIn c []
 unfolding rowsIn rowsFrom firstIn
 rows-end c = refl
 
-rows-all : (c : ℕ) (ps : List Point) → withPoints c noRows ps ≡ rowsIn c ps
+rows-all : (c : ℕ) (ps : List Point) → withPoints c noPoint ps ≡ rowsIn c ps
 unfolding withPoints withPoint
 rows-all c [] = rows-end c
 rows-all c (p ∷ ps) =
@@ -70,9 +70,9 @@ no-points = points-read []
 pub record RowsSoFar (s : List ℕ) (at c : ℕ) (rows : ColumnRows) (p : ℕ) : Type 0 where
   pub within : p ≤ length s
   pub decided : isPoints (drop at s) ≡ isPoints (drop p s)
-  pub left : withPoints c noRows (pointsIn (drop at s)) ≡ withPoints c rows (pointsIn (drop p s))
+  pub left : withPoints c noPoint (pointsIn (drop at s)) ≡ withPoints c rows (pointsIn (drop p s))
 
-pub rows-none : (s : List ℕ) (at c : ℕ) → at ≤ length s → RowsSoFar s at c noRows at
+pub rows-none : (s : List ℕ) (at c : ℕ) → at ≤ length s → RowsSoFar s at c noPoint at
 rows-none s at c h = record { within = h; decided = refl; left = refl }
 
 pub rows-more : {s : List ℕ} {at c : ℕ} {rows : ColumnRows} {p : ℕ} (q : Point) (next : ℕ) → RowsSoFar s at c rows p → Stands q next ≡ pointAt s p →

@@ -1,4 +1,4 @@
--- The rows in which a wire first comes to a column and last leaves it, as the code keeps them.
+-- The rows of the first and of the last point of a wire in a column, as the code keeps them.
 use mathlib.Core.Path.{_≡_}
 use mathlib.Core.Bool.{true, false, cond}
 use mathlib.Core.List.{List, [], _∷_}
@@ -13,12 +13,12 @@ use Rattle.layoutforms.specs.Exact.{pointsIn, isPoints}
 use Rattle.layoutforms.specs.declared.ColumnRows.{ColumnRows}
 
 -- no point in the column
-abbrev pub noRows : ColumnRows
-noRows = record { found = false; first = 0; last = 0 }
+abbrev pub noPoint : ColumnRows
+noPoint = record { found = false; first = 0; last = 0 }
 
 -- the rows of the first and of the last point in column c, where the first is known
 unfoldable pub rowsFrom : ℕ → List Point → Option ℕ → ColumnRows
-rowsFrom c ps none = noRows
+rowsFrom c ps none = noPoint
 rowsFrom c ps (some u) = record { found = true; first = u; last = lastIn c u ps }
 
 -- the rows of the first and of the last point in column c

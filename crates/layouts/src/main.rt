@@ -42,6 +42,7 @@ fn room() -> [u8; 1048576] {
     [0u8; 1048576]
 }
 
+// Prints the verdict on each layout on standard input.
 fn main() {
     let mut input = room();
     let n = io::read_full(STDIN_FILENO, &mut input);

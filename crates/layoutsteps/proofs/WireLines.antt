@@ -25,6 +25,7 @@ use Rattle.layout.specs.Drawn.{firstIn, placementFrom, placementOf, netNumbered
 use Rattle.layout.proofs.RoundTrip.{only-some}
 use Rattle.sound.specs.Wires.{worthBy, worthOf}
 use Rattle.sound.proofs.Nets.{net-some, net-of, worth-of}
+use Rattle.drc.proofs.Drawings.{placement-net}
 use Rattle.drc.specs.Covers.{samePoints, isOnBoard, drawnOf, drawnFrom, drawnBy}
 use Rattle.drawnwires.specs.declared.DrawnPlace.the-variants.{Nothing, At}
 use Rattle.drawnwires.specs.DrawnPlaces.{placeOf}
@@ -51,10 +52,6 @@ place-some none top s e = let z : _≡_ {A = ℕ} 0 1 = cc in absurd (omega arit
 place-some (some p) top s e =
     let row : top ≡ record { 0 = p .top } = cc in
     record { place = p; is = refl; top-is = sym (ap (λ (r : Row). r .0) row); shape-is = cc }
-
-placement-net : (t : ℕ) (n : Net) (ps : List Point) → placementOf t n ps .net ≡ n
-unfolding placementOf placementFrom
-placement-net t n ps = by-option (firstIn (wireColumn t) ps) (λ e. rw e) (λ u e. rw e)
 
 -- a placement drawn: of the net, with that shape and top, within the rows of the board
 pub record DrawnAt (board : Board) (t : ℕ) (ps : List Point) (n : Net) (top : Row) (s : Shape) : Type 0 where

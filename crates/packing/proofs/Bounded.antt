@@ -43,7 +43,3 @@ module _ (job : Job) (earlier : List ℕ) (t c : ℕ) (cheap : (n : Net) → Lis
       let w = chosen-within job earlier t k n s in
       let p = needed-pos (job .board) n in
       omega (arith, s .sum, cheap n (s .listed), split-rows n (suc k) (omega arith), last-le k (suc k - needed (job .board) n) (omega arith)))))
-
-  pub best-le : (j : ℕ) → best job earlier t j ≤ c * (job .board .rows + 1 - j)
-  unfolding best
-  best-le j = last-le (job .board .rows + 1 - j) (job .board .rows + 1 - j) (omega arith)

@@ -20,11 +20,11 @@ use Rattle.board.specs.Placement.{Placement, shortestAt}
 use Rattle.board.specs.Rival.{Rival, rivalSum}
 use Rattle.board.proofs.ShortestShape.{needed-pos}
 use Rattle.packing.specs.Fits.{fitsAt}
-use Rattle.packing.specs.Best.{sumWith, bestAt, table, bestLast, best}
+use Rattle.packing.specs.Best.{sumWith, table, bestLast, best}
 use Rattle.packing.specs.Walk.{reaches, choice, walk, choiceAt, walkFrom}
 use Rattle.packing.specs.Step.{LargestSum, ReachesBest, WalkStep, goes-on, takes}
 use Rattle.packing.proofs.Fitting.{fits-placeable, placeable-fits, fits-within}
-use Rattle.packing.proofs.UpperBound.{rival-bound, bestLast-suc, table-at}
+use Rattle.packing.proofs.UpperBound.{rival-bound, table-at}
 use Rattle.packing.proofs.WalkIsRival.{Chosen, choice-none, choice-some, walk-walked, bestLast-zero}
 
 -- the first net that passes a test has the lowest number of all that pass it, where numbers rise
@@ -65,14 +65,6 @@ module _ (job : Job) (earlier : List ℕ) (t : ℕ) where
   best-last =
       let e : job .board .rows + 1 - (job .board .rows + 1) ≡ 0 = omega arith in
       rw e (bestLast-zero job earlier t)
-
-  pub best-row : (j : ℕ) → 1 ≤ j → j ≤ job .board .rows → Best j ≡ bestAt job earlier t j (table job earlier t (job .board .rows - j)) (job .nets)
-  unfolding best
-  best-row j l h =
-      let k : ℕ = job .board .rows - j in
-      let e : job .board .rows + 1 - j ≡ suc k = omega arith in
-      let e′ : job .board .rows - k ≡ j = omega arith in
-      rw e (rw e′ at (bestLast-suc job earlier t k))
 
   pub table-row : (j i : ℕ) → j + i ≤ job .board .rows → getD (table job earlier t (job .board .rows - j)) i 0 ≡ Best (j + 1 + i)
   unfolding best

@@ -1,2 +1,2 @@
--- What the programs print.
+-- What the program `route` prints.
 pub mod Printed

@@ -81,7 +81,7 @@ unfolding stateOf stageOf valueOf storedOf
 left-start s a slots p b e f h =
     let t : take (a .nnets) (slots .nets) ≡ [] = ap (λ (i : ℕ). take i (slots .nets)) (b .nnets-is) in
     let v : storedOf noJob ≡ jobAbove a slots =
-      λ i. record { board = sym (b .board-is) i; nnets = sym (b .nnets-is) i; nblocks = sym (b .nblocks-is) i; nets = sym e i .nets; blocks = sym e i .blocks } in
+    λ i. record { board = sym (b .board-is) i; nnets = sym (b .nnets-is) i; nblocks = sym (b .nblocks-is) i; nets = sym e i .nets; blocks = sym e i .blocks } in
     record {
       held = rw (b .stage-is) (record { stage-is = refl; value = v; ranges = tt });
       nets-are = rw t (b .nets-are);

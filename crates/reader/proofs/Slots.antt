@@ -1,21 +1,13 @@
 -- The slots of a job by value: how many there are, which nets and blocks they hold, and how one more of them is stored. Assumes nothing.
-use Prim.Native.Nat.{ℕ, suc, _+_, _-_, _≤_, _<_}
+use Prim.Native.Nat.{ℕ, _+_, _-_, _≤_, _<_}
 use mathlib.Core.Path.{_≡_, sym, ap, _∙_}
-use mathlib.Core.Bool.{true, false, and-false}
-use mathlib.Core.List.{List}
 use native.Mathlib.Omega.{arith}
-use native.Mathlib.Numerals.{add-one}
-use lib.ListN.{length, getD, take, replicate, set, length-append, length-take, length-replicate, drop-of-length-le}
-use lib.Dec.{ltb}
-use lib.Seq.{slice, slice-cons, take-suc}
-use borrow.Author.Tests.{eq-eqb, ne-eqb, lt-ltb, le-ltb}
-use Rattle.lists.specs.Lists.{allOf}
+use lib.ListN.{length, take, replicate, set, length-append, length-replicate}
 use Rattle.board.specs.declared.Net.{Net}
 use Rattle.board.specs.declared.Block.{Block}
 use Rattle.board.specs.declared.StoredJob.{StoredJob}
 use Rattle.board.specs.Stored.{jobOf, storedOf, noNet, noBlock}
-use Rattle.jobfile.specs.Read.{lastNumber, pinsFree, withNet, withBlock}
-use Rattle.jobfile.proofs.Tests.{last-number}
+use Rattle.jobfile.specs.Read.{withNet, withBlock}
 use Rattle.jobfile.proofs.StoredJobs.{stored-net, stored-block}
 use Rattle.reader.specs.LinesAbove.{Filled}
 
@@ -28,19 +20,6 @@ module _ (job : StoredJob) (f : Filled job) where
   pub blocks-used : length (jobOf job .blocks) ≡ job .nblocks
   unfolding storedOf
   blocks-used = ap (λ (s : StoredJob). s .nblocks) (f .stored)
-
-  -- refusal 4: a slot is free, or all are used
-  pub net-slot-free : job .nnets < 512 → ltb (length (jobOf job .nets)) 512 ≡ true
-  net-slot-free h = rw nets-used (lt-ltb (job .nnets) 512 h)
-
-  pub net-slots-used : 512 ≤ job .nnets → ltb (length (jobOf job .nets)) 512 ≡ false
-  net-slots-used h = rw nets-used (le-ltb (job .nnets) 512 h)
-
-  pub block-slot-free : job .nblocks < 256 → ltb (length (jobOf job .blocks)) 256 ≡ true
-  block-slot-free h = rw blocks-used (lt-ltb (job .nblocks) 256 h)
-
-  pub block-slots-used : 256 ≤ job .nblocks → ltb (length (jobOf job .blocks)) 256 ≡ false
-  block-slots-used h = rw blocks-used (le-ltb (job .nblocks) 256 h)
 
   -- and the slots are 512 and 256
   pub nets-room : length (job .nets) ≡ 512

@@ -145,7 +145,7 @@ module _ (k : ℕ) (a : LinesAbove) (slots : StoredJob) (h : Held (a .stage) (jo
       pub net-nets : PinsAbove (jobOf (jobAbove a slots) .nets) a → PinsAbove (jobOf (jobAbove r more) .nets) r
       net-nets w =
           let t : jobOf (jobAbove r more) .nets ≡ jobOf (jobAbove a slots) .nets ++ (n ∷ []) =
-            ap (λ (v : StoredJob). jobOf v .nets) value-more ∙ ap (λ (j : J.Job). j .nets) (job-back (withNet (jobOf (jobAbove a slots)) n)) in
+          ap (λ (v : StoredJob). jobOf v .nets) value-more ∙ ap (λ (j : J.Job). j .nets) (job-back (withNet (jobOf (jobAbove a slots)) n)) in
           rw t (q .nets-are (jobOf (jobAbove a slots) .nets) w)
 
   -- ---- a line that gives a block

@@ -68,18 +68,7 @@ rest-written p s ys text r w = back-rest p s ys ∙ ap (λ (l : List ℕ). take 
 pub at-rest : (at : ℕ) (b s ys : List ℕ) (k : ℕ) → Written b (midOf at (length s - at) s) ys k → WrittenAt at b s (putMid at (length s - at) s ys) (at + k)
 at-rest at b s ys k w = record { next = ap (λ (n : ℕ). at + n) (w .used); bytes = rest-written at s ys b k w }
 
--- the room that is left behind a text
-pub rest-room : (a s t : List ℕ) (r : ℕ) → Written a s t r → length a ≤ length s → length (midOf r (length t - r) t) ≡ length s - length a
-rest-room a s t r v h = ap length (lent-rest r t) ∙ length-drop r t ∙ omega (arith, v .used, kept v h)
-
 -- A run of writes: a text and another behind it are the two in a row, whether the second was written into a lent rest or at a place
-
-pub written-rest : (a b s t ys : List ℕ) (r k : ℕ) → Written a s t r → Written b (midOf r (length t - r) t) ys k → Written (a ++ b) s (putMid r (length t - r) t ys) (r + k)
-written-rest a b s t ys r k v w =
-    record {
-      used = rw (v .used, w .used) (sym (length-append a b));
-      bytes = rest-written r t ys b k w ∙ rw (v .used, v .bytes) (over-then a b s);
-    }
 
 pub chain : {a b s t u : List ℕ} {r k : ℕ} → Written a s t r → WrittenAt r b t u k → Written (a ++ b) s u k
 chain {a} {b} {s} {t} {u} {r} {k} v w =

@@ -28,14 +28,14 @@ read-full-requires c κs = search needs
 close-requires : tie.Need-close-requires
 close-requires c κs = search needs
 
-least-requires : tie.Need-least-requires
-least-requires c κs = search needs
+lesser-requires : tie.Need-lesser-requires
+lesser-requires c κs = search needs
 
 array-share-prefix-bytes : tie.Need-array-share-prefix-bytes
 array-share-prefix-bytes c = search needs
 
 -- as many bytes are lent as fit
-fitting-bytes : (c : tie.After-bytes3) → length (take (c .before .before .least .result) (c .before .before .before .before .before .read-full .last .1 .0)) ≡ c .before .before .least .result
+fitting-bytes : (c : tie.After-bytes3) → length (take (c .before .before .lesser .result) (c .before .before .before .before .before .read-full .last .1 .0)) ≡ c .before .before .lesser .result
 fitting-bytes c = length-take-le _ _ (omega arith)
 
 slice-aggregate-put-bytes : tie.Need-slice-aggregate-put-bytes
@@ -64,7 +64,7 @@ read-from-spec =
     slice-aggregate-read-full
     read-full-requires
     close-requires
-    least-requires
+    lesser-requires
     array-share-prefix-bytes
     slice-aggregate-put-bytes
     put-bytes-requires

@@ -75,9 +75,10 @@ element-set-from-net : tie.Need-element-set-from-net Inv-loop μ-loop
 element-set-from-net c = left-room _ _ _ _ (c .before .before .before .before .before .before .before .before .before .before .before .before .loop .inv) _ _ (sym (c .before .before .before .before .before .before .before .before .form .given .1) ∙ c .before .before .before .before .before .before .before .before .before .before .next .ensures) _ (c .before .before .before .before .before .before .form-outcome .ensures _ (left-above _ _ _ _ (c .before .before .before .before .before .before .before .before .before .before .before .before .loop .inv))) (sym (c .before .before .before .before .before .number-of .ensures) ∙ c .before .before .before .before .if1 .left) _ (sym (c .before .net .given .1) ∙ c .before .before .before .entry-of .ensures)
 
 net-after-requires : tie.Need-net-after-requires Inv-loop μ-loop
-net-after-requires c κs =
-    (left-room _ _ _ _ (c .before .before .before .before .before .before .before .before .before .before .before .before .loop .inv) _ _ (sym (c .before .before .before .before .before .before .before .before .form .given .1) ∙ c .before .before .before .before .before .before .before .before .before .before .next .ensures) _ (c .before .before .before .before .before .before .form-outcome .ensures _ (left-above _ _ _ _ (c .before .before .before .before .before .before .before .before .before .before .before .before .loop .inv))) (sym (c .before .before .before .before .before .number-of .ensures) ∙ c .before .before .before .before .if1 .left) _ (sym (c .before .net .given .1) ∙ c .before .before .before .entry-of .ensures)
-    , left-rows _ _ _ _ (c .before .before .before .before .before .before .before .before .before .before .before .before .loop .inv) _ _ (sym (c .before .before .before .before .before .before .before .before .form .given .1) ∙ c .before .before .before .before .before .before .before .before .before .before .next .ensures) _ (c .before .before .before .before .before .before .form-outcome .ensures _ (left-above _ _ _ _ (c .before .before .before .before .before .before .before .before .before .before .before .before .loop .inv))) (sym (c .before .before .before .before .before .number-of .ensures) ∙ c .before .before .before .before .if1 .left) _ (sym (c .before .net .given .1) ∙ c .before .before .before .entry-of .ensures))
+net-after-requires c κs = (
+  left-room _ _ _ _ (c .before .before .before .before .before .before .before .before .before .before .before .before .loop .inv) _ _ (sym (c .before .before .before .before .before .before .before .before .form .given .1) ∙ c .before .before .before .before .before .before .before .before .before .before .next .ensures) _ (c .before .before .before .before .before .before .form-outcome .ensures _ (left-above _ _ _ _ (c .before .before .before .before .before .before .before .before .before .before .before .before .loop .inv))) (sym (c .before .before .before .before .before .number-of .ensures) ∙ c .before .before .before .before .if1 .left) _ (sym (c .before .net .given .1) ∙ c .before .before .before .entry-of .ensures),
+  left-rows _ _ _ _ (c .before .before .before .before .before .before .before .before .before .before .before .before .loop .inv) _ _ (sym (c .before .before .before .before .before .before .before .before .form .given .1) ∙ c .before .before .before .before .before .before .before .before .before .before .next .ensures) _ (c .before .before .before .before .before .before .form-outcome .ensures _ (left-above _ _ _ _ (c .before .before .before .before .before .before .before .before .before .before .before .before .loop .inv))) (sym (c .before .before .before .before .before .number-of .ensures) ∙ c .before .before .before .before .if1 .left) _ (sym (c .before .net .given .1) ∙ c .before .before .before .entry-of .ensures),
+)
 
 loop-less : tie.Need-loop-less Inv-loop μ-loop
 loop-less c = omega (arith, left-ahead _ _ _ _ (c .before .before .before .before .before .before .before .before .before .before .before .before .before .loop .inv) _ _ (sym (c .before .before .before .before .before .before .before .before .before .form .given .1) ∙ c .before .before .before .before .before .before .before .before .before .before .before .next .ensures), left-within _ _ _ _ (c .before .before .before .before .before .before .before .before .before .before .before .before .before .loop .inv) _ _ (sym (c .before .before .before .before .before .before .before .before .before .form .given .1) ∙ c .before .before .before .before .before .before .before .before .before .before .before .next .ensures))

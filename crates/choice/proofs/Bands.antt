@@ -13,7 +13,7 @@ use Rattle.lists.proofs.Places.{set-each}
 use Rattle.candidates.specs.declared.Candidates.{Candidates}
 use Rattle.choice.specs.declared.Pick.{Pick}
 use Rattle.choice.specs.declared.Band.{Band}
-use Rattle.choice.specs.Filled.{lent, stands, sumAt, pickTo, inBand, bandTo, pickAmong}
+use Rattle.choice.specs.Filled.{lent, hasClearTop, sumAt, pickTo, inBand, bandTo, pickAmong}
 use Rattle.choice.proofs.Picking.{stands-within, pick-suc-passed}
 
 -- no more are listed than the first i candidates, each has a place, and each is one of them
@@ -74,15 +74,15 @@ module _ (first last : List ℕ) (lo hi : ℕ) where
       rw e (omega arith, s .index-length)
 
   -- a candidate that can stand at a row of the band has a top in it
-  stands-in-band : (flags : List ℕ) (j i : ℕ) → lo ≤ j → j ≤ hi → stands first last flags j i ≡ true → inBand first last lo hi i ≡ true
+  stands-in-band : (flags : List ℕ) (j i : ℕ) → lo ≤ j → j ≤ hi → hasClearTop first last flags j i ≡ true → inBand first last lo hi i ≡ true
   unfolding inBand
   stands-in-band flags j i l h s =
       let w = stands-within first last flags j i s in
       and-both _ _ (le-leb (getD first i 0) hi (omega arith)) (le-leb lo (getD last i 0) (omega arith))
 
-  not-in-band : (flags : List ℕ) (j i : ℕ) → lo ≤ j → j ≤ hi → inBand first last lo hi i ≡ false → stands first last flags j i ≡ false
+  not-in-band : (flags : List ℕ) (j i : ℕ) → lo ≤ j → j ≤ hi → inBand first last lo hi i ≡ false → hasClearTop first last flags j i ≡ false
   not-in-band flags j i l h t =
-      by-test (stands first last flags j i) (λ s. absurd (true≢false (sym (stands-in-band flags j i l h s) ∙ t))) (λ s. s)
+      by-test (hasClearTop first last flags j i) (λ s. absurd (true≢false (sym (stands-in-band flags j i l h s) ∙ t))) (λ s. s)
 
 module _ (c : Candidates) (flags best : List ℕ) (j : ℕ) where
   abbrev Among : List ℕ → ℕ → Pick

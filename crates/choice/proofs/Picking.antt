@@ -12,7 +12,7 @@ use borrow.Author.Tests.{lt-ltb, le-ltb, le-leb, lt-leb, leb-true, ltb-true, ltb
 use Rattle.lists.proofs.Cases.{by-test, and-split}
 use Rattle.candidates.specs.declared.Candidates.{Candidates}
 use Rattle.choice.specs.declared.Pick.{Pick}
-use Rattle.choice.specs.Filled.{stands, sumAt, better, pickTo, pickAmong, RowInBounds}
+use Rattle.choice.specs.Filled.{hasClearTop, sumAt, better, pickTo, pickAmong, RowInBounds}
 
 -- the step on a pick
 pub better-more : (p : Pick) (sum net : ℕ) → p .sum < sum → better p sum net ≡ record { sum = sum; at = net }
@@ -25,19 +25,19 @@ better-not p sum net l = rw (le-ltb (p .sum) sum l)
 
 module _ (first last flags : List ℕ) (j i : ℕ) where
   abbrev Stands : Bool
-  Stands = stands first last flags j i
+  Stands = hasClearTop first last flags j i
 
   -- at a top of the candidate its flag decides, elsewhere it cannot stand
   pub stands-inside : (leb (getD first i 0) j && leb j (getD last i 0)) ≡ true → Stands ≡ eqb (getD flags (i * 1024 + (j - 1)) 0) 1
-  unfolding stands
+  unfolding hasClearTop
   stands-inside t = rw t
 
   pub stands-outside : (leb (getD first i 0) j && leb j (getD last i 0)) ≡ false → Stands ≡ false
-  unfolding stands
+  unfolding hasClearTop
   stands-outside t = rw t
 
   pub stands-within : Stands ≡ true → (getD first i 0 ≤ j) × (j ≤ getD last i 0)
-  unfolding stands
+  unfolding hasClearTop
   stands-within h =
       let s = and-split _ _ (and-split _ _ h .0) in
       (leb-true _ _ (s .0), leb-true _ _ (s .1))
@@ -45,7 +45,7 @@ module _ (first last flags : List ℕ) (j i : ℕ) where
 -- what the pick becomes with one candidate more
 module _ (c : Candidates) (flags best : List ℕ) (j i : ℕ) where
   abbrev Can : Bool
-  Can = stands (c .first) (c .last) flags j i
+  Can = hasClearTop (c .first) (c .last) flags j i
 
   pub pick-suc-taken : Can ≡ true → pickTo c flags best j (suc i) ≡ better (pickTo c flags best j i) (sumAt c best j i) (getD (c .net) i 0)
   unfolding pickTo
@@ -55,18 +55,18 @@ module _ (c : Candidates) (flags best : List ℕ) (j i : ℕ) where
   unfolding pickTo
   pick-suc-passed s = rw s
 
--- the pick over a list with one listed candidate more, as the loop has it: `can` is what `can_stand` answered, p the pick before and r
+-- the pick over a list with one listed candidate more, as the loop has it: `can` is what `has_clear_top` answered, p the pick before and r
 -- the one after
 module _ (c : Candidates) (flags best : List ℕ) (j : ℕ) (index : List ℕ) (k : ℕ) where
   abbrev NextIndex : ℕ
   NextIndex = getD index k 0
 
-  pub pick-taken : {can : Bool} {p q r : Pick} → can ≡ stands (c .first) (c .last) flags j NextIndex → p ≡ pickAmong c flags best j index k → can ≡ true → r ≡ q →
+  pub pick-taken : {can : Bool} {p q r : Pick} → can ≡ hasClearTop (c .first) (c .last) flags j NextIndex → p ≡ pickAmong c flags best j index k → can ≡ true → r ≡ q →
       q ≡ better p (sumAt c best j NextIndex) (getD (c .net) NextIndex 0) → r ≡ pickAmong c flags best j index (k + 1)
   unfolding pickAmong
   pick-taken a h t f e = rw (add-one k, sym a ∙ t, ← h) (f ∙ e)
 
-  pub pick-passed : {can : Bool} {p r : Pick} → can ≡ stands (c .first) (c .last) flags j NextIndex → p ≡ pickAmong c flags best j index k → can ≡ false → r ≡ p →
+  pub pick-passed : {can : Bool} {p r : Pick} → can ≡ hasClearTop (c .first) (c .last) flags j NextIndex → p ≡ pickAmong c flags best j index k → can ≡ false → r ≡ p →
       r ≡ pickAmong c flags best j index (k + 1)
   unfolding pickAmong
   pick-passed a h t f = rw (add-one k, sym a ∙ t) (f ∙ h)
@@ -78,7 +78,7 @@ module _ (c : Candidates) (flags best : List ℕ) (j : ℕ) (index : List ℕ) (
     pub ends : j + getD (c .need) i 0 ≤ 1025
     pub sum-low : getD (c .worth) i 0 + getD best (j + getD (c .need) i 0) 0 ≤ 4194304
 
-  pub stands-room : (k : ℕ) {can : Bool} → k < c .count → can ≡ stands (c .first) (c .last) flags j (getD index k 0) → can ≡ true → Room (getD index k 0)
+  pub stands-room : (k : ℕ) {can : Bool} → k < c .count → can ≡ hasClearTop (c .first) (c .last) flags j (getD index k 0) → can ≡ true → Room (getD index k 0)
   stands-room k h e t =
       let w = stands-within (c .first) (c .last) flags j (getD index k 0) (sym e ∙ t) in
       let l = b .listed k h in
@@ -91,7 +91,7 @@ pub pick-low : (c : Candidates) (flags best : List ℕ) (j m : ℕ) → getD bes
 unfolding pickTo
 pick-low c flags best j m g f zero h = g
 pick-low c flags best j m g f (suc i) h =
-    by-test (stands (c .first) (c .last) flags j i)
+    by-test (hasClearTop (c .first) (c .last) flags j i)
     (λ s.
     let p = pickTo c flags best j i in
     by-test (ltb (p .sum) (sumAt c best j i))

@@ -27,7 +27,7 @@ use Rattle.candidates.specs.declared.Candidates.{Candidates}
 use Rattle.candidates.specs.Gathered.{Candidate, candidatesFrom, candidatesOf, flag, Slot, Slots, Gathered}
 use Rattle.choice.specs.declared.Pick.{Pick}
 use Rattle.choice.specs.TrackPlans.{indexOf}
-use Rattle.choice.specs.Filled.{stands, sumAt, pickTo}
+use Rattle.choice.specs.Filled.{hasClearTop, sumAt, pickTo}
 use Rattle.choice.proofs.Picking.{better-more, better-not, pick-suc-taken, pick-suc-passed}
 use Rattle.choice.proofs.EligibleNets.{candidateAt, candidates-eligible, candidates-other, other-fits}
 use Rattle.choice.proofs.ChosenIndex.{drop-next, index-of-place}
@@ -39,8 +39,8 @@ flag-is false = refl
 module _ (job : Job) (earlier : List ℕ) (t : ℕ) (c : Candidates) (flags : List ℕ) (j : ℕ) where
   -- the code's test is the model's
   slot-stands : (i : ℕ) (x : Candidate) → Slot job t c flags i x → isEligible job earlier (x .net) ≡ true →
-      stands (c .first) (c .last) flags j i ≡ fitsAt job earlier t (x .net) j
-  unfolding stands fitsAt
+      hasClearTop (c .first) (c .last) flags j i ≡ fitsAt job earlier t (x .net) j
+  unfolding hasClearTop fitsAt
   slot-stands i x s e =
       by-test (leb (getD (c .first) i 0) j && leb j (getD (c .last) i 0))
       (λ h.
@@ -77,7 +77,7 @@ module _ (job : Job) (earlier : List ℕ) (t : ℕ) (c : Candidates) (flags : Li
     step-same h i m x ns q s e d k go =
         by-test (fitsAt job earlier t (x .net) j)
         (λ f.
-        let can : stands (c .first) (c .last) flags j i ≡ true = slot-stands i x s e ∙ f in
+        let can : hasClearTop (c .first) (c .last) flags j i ≡ true = slot-stands i x s e ∙ f in
         let v : sumAt c best j i ≡ sumWith (job .board) below (x .net) = slot-sum h i x s f in
         let a = pick-suc-taken c flags best j i can in
         by-test (ltb (q .sum) (sumWith (job .board) below (x .net)))

@@ -16,8 +16,8 @@ lent count net need worth first last = record { count = count; net = net; need =
 
 -- candidate i can stand with its top at row j: j is one of its tops, and it is clear of blocks there; flags outside its tops do not
 -- count
-unfoldable pub stands : List ℕ → List ℕ → List ℕ → ℕ → ℕ → Bool
-stands first last flags j i = leb (getD first i 0) j && leb j (getD last i 0) && eqb (getD flags (i * 1024 + (j - 1)) 0) 1
+unfoldable pub hasClearTop : List ℕ → List ℕ → List ℕ → ℕ → ℕ → Bool
+hasClearTop first last flags j i = leb (getD first i 0) j && leb j (getD last i 0) && eqb (getD flags (i * 1024 + (j - 1)) 0) 1
 
 -- the sum with candidate i's top at row j, where `best` has best(r) at index r
 unfoldable pub sumAt : Candidates → List ℕ → ℕ → ℕ → ℕ
@@ -31,7 +31,7 @@ better p sum net = cond (ltb (p .sum) sum) (record { sum = sum; at = net }) p
 unfoldable pub pickTo : Candidates → List ℕ → List ℕ → ℕ → ℕ → Pick
 pickTo c flags best j zero = record { sum = getD best (j + 1) 0; at = noChoice }
 pickTo c flags best j (suc i) =
-    let p = pickTo c flags best j i in cond (stands (c .first) (c .last) flags j i) (better p (sumAt c best j i) (getD (c .net) i 0)) p
+    let p = pickTo c flags best j i in cond (hasClearTop (c .first) (c .last) flags j i) (better p (sumAt c best j i) (getD (c .net) i 0)) p
 
 -- candidate i has a top in rows lo to hi
 unfoldable pub inBand : List ℕ → List ℕ → ℕ → ℕ → ℕ → Bool
@@ -50,7 +50,7 @@ pickAmong c flags best j index zero = record { sum = getD best (j + 1) 0; at = n
 pickAmong c flags best j index (suc k) =
     let p = pickAmong c flags best j index k in
     let i = getD index k 0 in
-    cond (stands (c .first) (c .last) flags j i) (better p (sumAt c best j i) (getD (c .net) i 0)) p
+    cond (hasClearTop (c .first) (c .last) flags j i) (better p (sumAt c best j i) (getD (c .net) i 0)) p
 
 -- rows j, j − 1, .. to 1 are still to be filled
 unfoldable pub fillFrom : Candidates → List ℕ → ℕ → List ℕ → List ℕ → TrackPlan

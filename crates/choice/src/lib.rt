@@ -2,7 +2,7 @@
 ghost use mathlib.Core.Path.{_≡_};
 ghost use Prim.Native.Nat.{_+_, _*_, _≤_, _<_};
 ghost use lib.ListN.{length};
-ghost use Rattle.choice.specs.Filled.{lent, stands, better, inBand, bandTo, pickAmong, filledPlan, InBounds, RowInBounds};
+ghost use Rattle.choice.specs.Filled.{lent, hasClearTop, better, inBand, bandTo, pickAmong, filledPlan, InBounds, RowInBounds};
 use board::Row;
 use candidates::Candidates;
 
@@ -36,7 +36,7 @@ fn take_better(p: Pick, sum: usize, net: usize) -> Pick
 }
 
 // Whether candidate i can stand with its top at a row. The flags are read at its own tops only: outside them they hold anything.
-fn can_stand<'a>(
+fn has_clear_top<'a>(
     first: &'a [usize; 512],
     last: &'a [usize; 512],
     flags: &[u8],
@@ -44,7 +44,7 @@ fn can_stand<'a>(
     row: Row,
 ) -> bool
     requires { ⌜ (i < 512) × (1 ≤ row .0) × (row .0 ≤ 1024) × (i * 1024 + 1024 ≤ length (now flags)) ⌝ }
-    ensures { λ r. ⌜ r ≡ stands (now (first .entry)) (now (last .entry)) (now (flags .entry)) (row .0) i ⌝ }
+    ensures { λ r. ⌜ r ≡ hasClearTop (now (first .entry)) (now (last .entry)) (now (flags .entry)) (row .0) i ⌝ }
 {
     let j = row.0;
     // one test of both ends, since either alone is as likely to hold as not
@@ -121,7 +121,7 @@ fn row_pick<'a>(
     let mut p = Pick { sum: next, at: 512 };
     for k in 0..listed {
         let i = index[k];
-        if can_stand(first, last, flags, i, row) {
+        if has_clear_top(first, last, flags, i, row) {
             let value = worth[i];
             let sum = value + best[j + need[i]];
             p = take_better(p, sum, net[i]);

@@ -25,7 +25,7 @@ unfolding sumAt
 loop-again c =
     let inv = c .before .before .before .before .loop .inv in
     let k = c .before .before .before .before .loop .k in
-    let can = c .before .can-stand .ensures in (
+    let can = c .before .has-clear-top .ensures in (
       omega arith,
       ⊎-elim
           (λ w. pick-taken _ _ _ _ _ k can (inv .1) (w .0 .taken) (w .6) (w .5 .ensures))
@@ -53,8 +53,8 @@ mul-i c = search needs
 element-copy-out-i : tie.Need-element-copy-out-i Inv-loop μ-loop
 element-copy-out-i c = search needs
 
-can-stand-requires : tie.Need-can-stand-requires Inv-loop μ-loop
-can-stand-requires c κs =
+has-clear-top-requires : tie.Need-has-clear-top-requires Inv-loop μ-loop
+has-clear-top-requires c κs =
     let l = c .before .before .before .before .before .pre .listed (c .before .before .loop .k) (omega arith) in
     search needs
 
@@ -82,28 +82,28 @@ add-sum : tie.Need-add-sum Inv-loop μ-loop
 add-sum c =
     let start = c .before .before .before .before .before .before .before .before .before in
     let k = c .before .before .before .before .before .before .loop .k in
-    let r = stands-room _ _ _ _ _ (start .pre) k (omega arith) (c .before .before .before .can-stand .ensures) (c .before .before .if1 .taken) in
+    let r = stands-room _ _ _ _ _ (start .pre) k (omega arith) (c .before .before .before .has-clear-top .ensures) (c .before .before .if1 .taken) in
     omega arith
 
 mul-sum-2 : tie.Need-mul-sum-2 Inv-loop μ-loop
 mul-sum-2 c =
     let start = c .before .before .before .before .before .before .before .before .before in
     let k = c .before .before .before .before .before .before .loop .k in
-    let r = stands-room _ _ _ _ _ (start .pre) k (omega arith) (c .before .before .before .can-stand .ensures) (c .before .before .if1 .taken) in
+    let r = stands-room _ _ _ _ _ (start .pre) k (omega arith) (c .before .before .before .has-clear-top .ensures) (c .before .before .if1 .taken) in
     omega arith
 
 element-copy-out-sum-2 : tie.Need-element-copy-out-sum-2 Inv-loop μ-loop
 element-copy-out-sum-2 c =
     let start = c .before .before .before .before .before .before .before .before .before in
     let k = c .before .before .before .before .before .before .loop .k in
-    let r = stands-room _ _ _ _ _ (start .pre) k (omega arith) (c .before .before .before .can-stand .ensures) (c .before .before .if1 .taken) in
+    let r = stands-room _ _ _ _ _ (start .pre) k (omega arith) (c .before .before .before .has-clear-top .ensures) (c .before .before .if1 .taken) in
     omega arith
 
 add-sum-2 : tie.Need-add-sum-2 Inv-loop μ-loop
 add-sum-2 c =
     let start = c .before .before .before .before .before .before .before .before .before .before in
     let k = c .before .before .before .before .before .before .before .loop .k in
-    let r = stands-room _ _ _ _ _ (start .pre) k (omega arith) (c .before .before .before .before .can-stand .ensures) (c .before .before .before .if1 .taken) in
+    let r = stands-room _ _ _ _ _ (start .pre) k (omega arith) (c .before .before .before .before .has-clear-top .ensures) (c .before .before .before .if1 .taken) in
     omega arith
 
 mul-take-better : tie.Need-mul-take-better Inv-loop μ-loop
@@ -137,7 +137,7 @@ row-pick-spec =
     loop-holds
     mul-i
     element-copy-out-i
-    can-stand-requires
+    has-clear-top-requires
     mul-value
     element-copy-out-value
     mul-sum

@@ -1,9 +1,9 @@
--- `choice::can_stand` meets its contract. Assumes nothing.
+-- `choice::has_clear_top` meets its contract. Assumes nothing.
 use mathlib.Core.Path.{sym}
 use Rattle.choice.proofs.Picking.{stands-inside, stands-outside}
 use borrow.Author.Needs.{needs}
-use Rattle.choice.proofs.can_stand.Statement.{statement}
-use Rattle.choice.proofs.can_stand.Tie as tie
+use Rattle.choice.proofs.has_clear_top.Statement.{statement}
+use Rattle.choice.proofs.has_clear_top.Tie as tie
 
 mul-inside : tie.Need-mul-inside
 mul-inside c = search needs
@@ -35,8 +35,8 @@ returns c = sym (stands-inside _ _ _ _ _ (c .before .if1 .taken))
 returns-2 : tie.Need-returns-2
 returns-2 c = sym (stands-outside _ _ _ _ _ (c .if1 .left))
 
-pub can-stand-spec : {M : Type 1} → statement M
-can-stand-spec =
+pub has-clear-top-spec : {M : Type 1} → statement M
+has-clear-top-spec =
     tie.close
     (tie.spec
     mul-inside

@@ -8,4 +8,5 @@ pub mod Walking
 pub mod RowByRow
 pub mod TracksOfPlan
 pub mod PlanIsBest
+pub mod TakenOut
 pub mod NextTrack

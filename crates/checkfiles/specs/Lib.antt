@@ -1,2 +1,2 @@
 -- What is promised of the files that are checked.
-pub mod FileTexts
+pub mod LineOfFiles

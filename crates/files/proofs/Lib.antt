@@ -1,2 +1,3 @@
 -- Laws of a file that is read.
 pub mod Reading
+pub mod TakenOut

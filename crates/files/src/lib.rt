@@ -5,6 +5,13 @@ ghost use lib.ListN.{take};
 ghost use Rattle.io.specs.Counts.{Counts};
 ghost use Rattle.text.specs.Written.{Written};
 ghost use Rattle.files.specs.Unopened.{EmptyUnopened};
+ghost use Rattle.files.specs.FileTexts.{ReadText};
+
+// A file as it was read: the first `used` bytes. There is room for one byte more than a text may have, so that one byte too many is seen.
+pub struct FileText {
+    pub bytes: [u8; 64001],
+    pub used: usize,
+}
 
 // The smaller of two numbers.
 fn lesser(a: usize, b: usize) -> usize
@@ -30,10 +37,21 @@ pub fn read_from(fd: i32, out: &mut [u8]) -> usize
     text::put_bytes(out, &bytes[..fitting])
 }
 
-// Reads a file into a buffer, as far as it fits, and returns the bytes read. A file that can't be opened counts as empty.
-pub fn read_file(path: &[u8], out: &mut [u8]) -> usize
-    ensures { λ r. ⌜ Counts r (now (out .exit)) ⌝ }
-    ensures { λ r. ⌜ Written (take r (now (out .exit))) (now (out .entry)) (now (out .exit)) r ⌝ }
+// Reads an open file. A number below 0 is none, and counts as an empty one.
+pub fn text_from(fd: i32) -> FileText
+    ensures { λ r. ⌜ ReadText r ⌝ }
+    ensures { λ r. ⌜ Counts (r .used) (r .bytes) ⌝ }
+    ensures { λ r. ⌜ EmptyUnopened fd (r .used) ⌝ }
 {
-    read_from(os::open_read(path), out)
+    let mut bytes = [0u8; 64001];
+    let used = read_from(fd, &mut bytes);
+    FileText { bytes, used }
+}
+
+// Reads the file of a name. One that can't be opened counts as empty.
+pub fn file_text(path: &[u8]) -> FileText
+    ensures { λ r. ⌜ ReadText r ⌝ }
+    ensures { λ r. ⌜ Counts (r .used) (r .bytes) ⌝ }
+{
+    text_from(os::open_read(path))
 }

@@ -1,7 +1,7 @@
 -- `checkfiles::checked_files` meets its contract. Assumes nothing.
 use mathlib.Core.Path.{sym}
 use lib.Seq.{length-take-le}
-use Rattle.checkfiles.specs.FileTexts.{textOf}
+use Rattle.files.specs.FileTexts.{textOf}
 use borrow.Author.Needs.{needs}
 use Rattle.checkfiles.proofs.checked_files.Statement.{statement}
 use Rattle.checkfiles.proofs.checked_files.Tie as tie

@@ -1,0 +1,2 @@
+-- Laws of the files that are checked.
+pub mod TakenOut

@@ -1,17 +1,35 @@
 // The program `route`: a job on standard input.
+use files::FileText;
 use libc::STDIN_FILENO;
 use libc::STDOUT_FILENO;
+use printing::Printed;
+ghost use Rattle.io.specs.Counts.{Counts};
+ghost use Rattle.files.specs.FileTexts.{ReadText};
+ghost use Rattle.routeinput.specs.InputPrinted.{InputPrinted};
 
-// Room for one byte more than a job may have, so that one byte too many is seen.
-fn room() -> [u8; 64001] {
-    [0u8; 64001]
+// The job as it was read, and what is printed for it.
+pub struct RoutedInput {
+    pub job: FileText,
+    pub printed: Printed,
+}
+
+// Routes the job on standard input. Its text comes back with what is printed, so that the contract can say whose layout or refusal that is.
+pub fn routed_input() -> RoutedInput
+    ensures { λ r. ⌜ ReadText (r .job) ⌝ }
+    ensures { λ r. ⌜ InputPrinted r ⌝ }
+    ensures { λ r. ⌜ Counts (r .printed .used) (r .printed .bytes) ⌝ }
+{
+    let job = files::text_from(STDIN_FILENO);
+    let job_bytes = job.bytes;
+    let job_used = job.used;
+    let printed = printing::print_route(&job_bytes[..job_used]);
+    RoutedInput { job, printed }
 }
 
 // Reads a job on standard input, and prints its layout, or its refusal as `(refused number line)`.
 pub fn route_input() {
-    let mut input = room();
-    let n = io::read_full(STDIN_FILENO, &mut input);
-    let printed = printing::print_route(&input[..n]);
+    let routed = routed_input();
+    let printed = routed.printed;
     let bytes = printed.bytes;
     io::write_all(STDOUT_FILENO, &bytes[..printed.used]);
 }

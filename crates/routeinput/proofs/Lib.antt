@@ -1,0 +1,2 @@
+-- Laws of the job on standard input.
+pub mod TakenOut

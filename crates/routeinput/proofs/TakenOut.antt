@@ -1,0 +1,19 @@
+-- What is promised of what is printed, taken out clause by clause: none of them asks less than its words say. Assumes nothing.
+use mathlib.Core.Path.{_≡_}
+use lib.ListN.{take, replicate}
+use Rattle.text.specs.Written.{over}
+use Rattle.jobfile.specs.Read.{readJob}
+use Rattle.printing.specs.Printed.{printedText}
+use Rattle.files.specs.FileTexts.{textOf}
+use Rattle.files.proofs.Reading.{start-written}
+use Rattle.routeinput.specs.declared.RoutedInput.{RoutedInput}
+use Rattle.routeinput.specs.InputPrinted.{InputPrinted}
+
+module _ (r : RoutedInput) (h : InputPrinted r) where
+  -- the bytes that are printed are the layout or the refusal of the job's text
+  pub printed-is : take (r .printed .used) (r .printed .bytes) ≡ printedText (readJob (textOf (r .job)))
+  printed-is = start-written h
+
+  -- every byte of the buffer: what is printed, and behind it 0
+  pub bytes-are : r .printed .bytes ≡ over (printedText (readJob (textOf (r .job)))) (replicate 64000 0)
+  bytes-are = h .bytes

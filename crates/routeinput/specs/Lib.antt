@@ -1,0 +1,2 @@
+-- What is promised of the job on standard input.
+pub mod InputPrinted

@@ -10,7 +10,9 @@ use Rattle.layout.specs.Tree.{Wire, Line, opens, track, wire, loose, closes}
 use Rattle.layout.specs.ReadBack.{readLine}
 use Rattle.sound.specs.Wires.{wireNumbers}
 
--- ---- the lines of a text
+-- ---- the lines of a text. `Breach` and the verdict (`Judge`) both speak of the lines as they are read here. What pins this reading down:
+-- a line is read as x exactly where it is the text of x with numbers of at most six digits (`layout`, proofs/RoundTrip.antt), and a layout is
+-- sound, which is said of its whole text, exactly where no line is broken (proofs/JudgeSound.antt)
 
 -- byte 10 ends the text; an empty text has no line without it
 unfoldable pub isEnded : List ℕ → Bool

@@ -29,7 +29,7 @@ pub data AtPinOrTrack (board : Board) (t : ℕ) (p : Placement) (q : Point) : Ty
   on-track : viaColumn t ≤ q .column → q .column ≤ wireColumn t → p .top ≤ q .row → q .row ≤ bottom p → AtPinOrTrack board t p q
 
 -- what holds of all points holds where equal neighbours are left out
-distinct-each : (P : Point → Type 0) (p : Point) (qs : List Point) → Each P qs → Each P (distinctFrom p qs)
+pub distinct-each : (P : Point → Type 0) (p : Point) (qs : List Point) → Each P qs → Each P (distinctFrom p qs)
 unfolding distinctFrom
 distinct-each P p [] a = tt
 distinct-each P p (q ∷ qs) a =

@@ -32,7 +32,7 @@ use Rattle.judging.specs.Values.{isNumbered, allLined, isNextAt, firstBr
 use Rattle.judging.proofs.ValueTests.{closed-here, closed-above, settled-sum, settled-wire, settled-kept, lowest-row, breach-before, breach-still-none, breach-here}
 use Rattle.judging.proofs.Turns.{breach-none, breach-some, canStand, closes-off, settled-off, settled-on}
 use Rattle.judging.proofs.LinedNets.{lined-same}
-use Rattle.judging.proofs.Indexes.{index-number}
+use Rattle.judging.proofs.Indexes.{index-number, found-worth}
 use Rattle.judging.proofs.LinesAdded.{line-added, unlined-same, next-same, next-new}
 
 -- ---- numbers in range
@@ -353,11 +353,6 @@ module _ (job : Job) (n : ℕ) (line : LineInRange n) (s : Summary) (w : Wire) (
     abbrev next : Bool
     next = isNextAt (job .board) words stands found j top shape
 
-    drawn-worth : worthOf job (w .number) ≡ worth (job .board) (found .net)
-    drawn-worth =
-        let member = subst (λ q. List·Memᴰ q (job .nets)) (is .net-is) (mem-at (job .nets) (found .index) noNet (is .index-range)) in
-        ap (worthOf job) (sym numbered) ∙ worth-of job (a .numbers-rise) (found .net) member
-
     new-net : next ≡ true → getD stands (found .index) 0 ≡ 0
     new-net t = eqb-true (getD stands (found .index) 0) 0 (next-new (job .board) words stands found j top shape t)
 
@@ -374,7 +369,7 @@ module _ (job : Job) (n : ℕ) (line : LineInRange n) (s : Summary) (w : Wire) (
           track-is = h .track-is;
           line-is = h .line-is;
           printed-is = h .printed-is;
-          sum-is = ap₂ (λ x y. x + y) (h .sum-is) drawn-worth;
+          sum-is = ap₂ (λ x y. x + y) (h .sum-is) (found-worth job found is a (w .number) numbered);
           lowest-is = refl;
           last-is = h .last-is;
           breach-is =

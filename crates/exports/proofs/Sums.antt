@@ -1,6 +1,6 @@
 -- The sums of a plan by value, added up: they are those of its tracks, and at most 524,288. Assumes nothing.
-use Prim.Native.Nat.{ℕ, zero, suc, _+_, _-_, _*_, _≤_, _<_}
-use mathlib.Core.Path.{_≡_, refl, ap, _∙_}
+use Prim.Native.Nat.{ℕ, zero, suc, _+_, _-_, _≤_, _<_}
+use mathlib.Core.Path.{_≡_, refl, ap}
 use mathlib.Core.List.{List, [], _∷_, _++_, map}
 use native.Mathlib.Omega.{arith}
 use lib.ListN.{length, getD, take, replicate}
@@ -9,7 +9,7 @@ use Rattle.board.specs.Accepted.{AcceptedJob}
 use Rattle.board.specs.Unbeaten.{FilledTrack}
 use Rattle.board.proofs.JobWorth.{job-worth}
 use Rattle.planning.specs.Plan.{planOf}
-use Rattle.planning.specs.Loose.{sumOfTracks, looseOf}
+use Rattle.planning.specs.Loose.{sumOfTracks}
 use Rattle.planning.proofs.Balance.{sums-add-up}
 use Rattle.planner.specs.JobPlans.{storedPlan, jobPlanOf}
 use Rattle.exports.specs.Exported.{addedUp}

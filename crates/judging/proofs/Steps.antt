@@ -3,24 +3,21 @@ use Prim.Native.Nat.{ℕ, suc, _+_, _-_, _≤_, _<_}
 use mathlib.Core.Path.{_≡_, refl, sym, ap, ap₂, subst, _∙_}
 use mathlib.Core.Bool.{Bool, true, false, not, _&&_, and-true, true≢false, false≢true}
 use mathlib.Core.Option.{Option, none, some}
-use mathlib.Core.List.{List, List·Memᴰ}
+use mathlib.Core.List.{List}
 use native.Mathlib.Omega.{arith}
 use lib.Dec.{eqb, leb, ltb}
 use lib.ListN.{length, getD, set}
 use borrow.Author.Tests.{eq-eqb, eqb-true, eqb-false, leb-true, lt-ltb, not-true}
 use Rattle.lists.specs.Lists.{anyOf, allOf}
 use Rattle.lists.proofs.Cases.{by-test, and-split}
-use Rattle.lists.proofs.Places.{mem-at}
 use Rattle.board.specs.declared.Shape.{Shape}
 use Rattle.board.specs.Job.{Job}
 use Rattle.board.specs.Length.{span, extra, worth}
 use Rattle.board.specs.Placement.{Placement, placementAt, covered}
-use Rattle.board.specs.Stored.{noNet}
 use Rattle.board.specs.Accepted.{AcceptedJob}
 use Rattle.board.specs.Tests.{isOn}
 use Rattle.layout.specs.Tree.{Wire, Line, opens, track, wire, loose, closes}
 use Rattle.sound.specs.Wires.{worthOf}
-use Rattle.sound.proofs.Nets.{worth-of}
 use Rattle.candidates.specs.Placed.{indexFrom}
 use Rattle.drc.specs.Covers.{drawnBy}
 use Rattle.drc.specs.Judge.{endsTrack, isInTurn, isOpening, isUnlined}

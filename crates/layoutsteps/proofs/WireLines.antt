@@ -3,11 +3,10 @@ use Prim.Native.Nat.{ℕ, _≤_, _<_}
 use mathlib.Core.Path.{_≡_, refl, sym, ap, subst, _∙_}
 use mathlib.Core.Bool.{true, false, _&&_, true≢false}
 use mathlib.Core.Option.{Option, none, some}
-use mathlib.Core.List.{List, List·Memᴰ}
+use mathlib.Core.List.{List}
 use native.Mathlib.Omega.{arith}
 use borrow.Author.Tests.{leb-true, eq-eqb}
 use Rattle.lists.proofs.Cases.{by-option, and-split}
-use Rattle.lists.proofs.Places.{mem-at}
 use Rattle.board.specs.declared.Board.{Board}
 use Rattle.board.specs.declared.Net.{Net}
 use Rattle.board.specs.declared.Row.{Row}
@@ -15,16 +14,15 @@ use Rattle.board.specs.declared.Shape.{Shape}
 use Rattle.board.specs.Job.{Job}
 use Rattle.board.specs.Length.{worth}
 use Rattle.board.specs.Placement.{Placement, placementAt, bottom}
-use Rattle.board.specs.Stored.{noNet}
 use Rattle.board.specs.Accepted.{AcceptedJob}
 use Rattle.board.specs.Tests.{isFromOne, isOverUpper, isUnderLower, isToLast}
 use Rattle.layout.specs.declared.Point.{Point}
 use Rattle.layout.specs.Tree.{Wire}
-use Rattle.layout.specs.Drawing.{wireColumn, pointsOn}
-use Rattle.layout.specs.Drawn.{firstIn, placementFrom, placementOf, netNumbered}
+use Rattle.layout.specs.Drawing.{pointsOn}
+use Rattle.layout.specs.Drawn.{placementOf, netNumbered}
 use Rattle.layout.proofs.RoundTrip.{only-some}
 use Rattle.sound.specs.Wires.{worthBy, worthOf}
-use Rattle.sound.proofs.Nets.{net-some, net-of, worth-of}
+use Rattle.sound.proofs.Nets.{net-some, net-of}
 use Rattle.drc.proofs.Drawings.{placement-net}
 use Rattle.drc.specs.Covers.{samePoints, isOnBoard, drawnOf, drawnFrom, drawnBy}
 use Rattle.drawnwires.specs.declared.DrawnPlace.the-variants.{Nothing, At}

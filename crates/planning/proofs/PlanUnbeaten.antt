@@ -1,14 +1,12 @@
 -- The plan of an accepted job is unbeaten: on every track no rival sequence has a larger sum, with the earlier tracks held. Assumes nothing.
-use Prim.Native.Nat.{ℕ, zero, suc, _+_, _≤_, _<_}
-use mathlib.Core.Path.{_≡_, refl, ap}
-use mathlib.Core.List.{List, [], _++_, append-assoc, append-nil, List·Memᴰ}
+use Prim.Native.Nat.{ℕ, suc, _+_, _≤_}
+use mathlib.Core.List.{List, List·Memᴰ}
 use native.Mathlib.Omega.{arith}
-use native.Mathlib.Nat.{add-zero}
-use lib.ListN.{length, getD, take}
+use lib.ListN.{take}
 use Rattle.board.specs.declared.Net.{Net}
 use Rattle.board.specs.Length.{Allowed, shortest}
 use Rattle.board.specs.Job.{Job}
-use Rattle.board.specs.Unbeaten.{emptyTrack, numbers, numbersOn, Optimal, Unbeaten}
+use Rattle.board.specs.Unbeaten.{emptyTrack, numbersOn, Optimal, Unbeaten}
 use Rattle.board.specs.Accepted.{AcceptedJob}
 use Rattle.board.proofs.Tops.{accepted-shortest}
 use Rattle.packing.specs.Best.{best}

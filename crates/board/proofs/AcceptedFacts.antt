@@ -1,18 +1,18 @@
 -- For each clause of `AcceptedJob` and of what it is made of, a board, net, block or job that it turns away, and the largest and smallest
 -- values that it lets through. Assumes nothing.
-use Prim.Native.Nat.{ℕ, _≤_, _<_}
+use Prim.Native.Nat.{ℕ}
 use mathlib.Core.Path.{_≡_, refl}
-use mathlib.Core.List.{List, [], _∷_, List·Memᴰ, List·Memᴰ·head, List·Memᴰ·tail}
+use mathlib.Core.List.{List, [], _∷_, List·Memᴰ·head, List·Memᴰ·tail}
 use native.Mathlib.Omega.{arith}
-use lib.ListN.{length, replicate, length-replicate}
+use lib.ListN.{replicate}
 use Rattle.board.specs.declared.Board.{Board}
 use Rattle.board.specs.declared.Net.{Net}
 use Rattle.board.specs.declared.Block.{Block}
-use Rattle.board.specs.declared.Shape.the-variants.{Plain, Stretched}
-use Rattle.board.specs.Length.{width, upper, lower, span, plainLength, Allowed, shortest, needed}
+use Rattle.board.specs.declared.Shape.the-variants.{Stretched}
+use Rattle.board.specs.Length.{width, upper, lower, span, plainLength, shortest, needed}
 use Rattle.board.specs.Job.{Job}
 use Rattle.board.specs.Accepted.{BoardInRange, NetInRange, BlockInRange, AcceptedNet, AcceptedJob}
-use Rattle.board.specs.WorkedBoard.{workedBoard, workedBlock, net1, net2, net3, net4, net5}
+use Rattle.board.specs.WorkedBoard.{workedBoard, workedBlock, net1, net2}
 use Rattle.board.proofs.ShortestShape.{none-allowed}
 
 -- a board of h rows and k tracks

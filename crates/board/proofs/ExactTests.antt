@@ -2,12 +2,12 @@
 use Prim.Native.Nat.{ℕ, zero, suc, _+_, _-_, _≤_, _<_}
 use mathlib.Core.Path.{_≡_, refl, sym, ap, _∙_}
 use mathlib.Core.Logic.{_↔_, ⊎-elim}
-use mathlib.Core.Bool.{Bool, true, false, not, _&&_, _||_, or-true, true≢false, false≢true}
+use mathlib.Core.Bool.{Bool, true, false, not, _||_, or-true, true≢false, false≢true}
 use mathlib.Core.List.{List, [], _∷_, List·Memᴰ, List·Memᴰ·head, List·Memᴰ·tail, List·Memᴰ·cases-cons, List·Memᴰ·not-nil}
 use native.Mathlib.Omega.{arith}
 use lib.Dec.{leb, eqb}
 use borrow.Author.Tests.{leb-true, le-leb, eqb-true, eqb-false, eq-eqb, ne-eqb, not-true}
-use Rattle.lists.specs.Lists.{anyOf, allOf}
+use Rattle.lists.specs.Lists.{anyOf}
 use Rattle.lists.proofs.Cases.{by-test, and-split, and-both}
 use Rattle.lists.proofs.Laws.{allOf-at, allOf-of, anyOf-mem, mem-anyOf}
 use Rattle.board.specs.declared.Board.{Board}

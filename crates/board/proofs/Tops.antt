@@ -1,6 +1,6 @@
 -- The top rows of a net in a shape are those from `firstTop` to `lastTop`, and a placement at any allowed length holds one at the
 -- shortest. Assumes nothing.
-use Prim.Native.Nat.{ℕ, _+_, _≤_, _<_}
+use Prim.Native.Nat.{ℕ, _+_, _≤_}
 use mathlib.Core.Path.{_≡_, refl}
 use mathlib.Core.Logic.{_↔_}
 use native.Mathlib.Omega.{arith}

@@ -1,6 +1,6 @@
 -- Document 01, "Operations", read: what holds of a job that no refusal 3 to 9 turns away. proofs/AcceptedFacts.antt has
 -- what each clause turns away.
-use Prim.Native.Nat.{ℕ, _≤_, _<_}
+use Prim.Native.Nat.{_≤_, _<_}
 use mathlib.Core.Path.{_≡_}
 use mathlib.Core.List.{List·Memᴰ}
 use lib.ListN.{length}

@@ -1,6 +1,6 @@
 -- The job by value: its arrays hold the job's nets and blocks, and one fixed empty record in every other slot.
-use Prim.Native.Nat.{ℕ, _-_, _≤_}
-use mathlib.Core.List.{List, [], _++_}
+use Prim.Native.Nat.{_-_, _≤_}
+use mathlib.Core.List.{_++_}
 use lib.ListN.{length, take, replicate}
 use Rattle.board.specs.declared.Net.{Net}
 use Rattle.board.specs.declared.Block.{Block}

@@ -10,6 +10,7 @@ use lib.ListN.{length, getD, take}
 use borrow.Author.Tests.{eq-eqb}
 use Rattle.lists.specs.Lists.{anyOf}
 use Rattle.lists.proofs.Cases.{by-test}
+use Rattle.lists.proofs.Joins.{anyOf-more}
 use Rattle.lists.proofs.Places.{take-more, mem-take}
 use Rattle.board.specs.declared.Block.{Block}
 use Rattle.board.specs.declared.StoredJob.{StoredJob}
@@ -19,7 +20,6 @@ use Rattle.board.specs.Accepted.{BlockInRange}
 use Rattle.blockmap.specs.Bits.{isSet}
 use Rattle.board.specs.Stored.{AcceptedStored}
 use Rattle.candidates.specs.Placed.{hasBlocks}
-use Rattle.candidates.proofs.Prefixes.{anyOf-more}
 
 -- the rows set are those that a block of bs closes
 abbrev pub MapFrom : List ℕ → ℕ → List Block → Type 0

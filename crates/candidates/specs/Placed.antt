@@ -1,5 +1,5 @@
 -- Document 01, "Choosing a track": eligible nets by look-up, from the net that precedes each net and the track that each net stands on.
-use Prim.Native.Nat.{ℕ, suc, _-_, _≤_, _<_}
+use Prim.Native.Nat.{ℕ, suc, _-_, _<_}
 use mathlib.Core.Path.{_≡_}
 use mathlib.Core.Bool.{Bool, not, _&&_, _||_, cond}
 use mathlib.Core.List.{List, [], _∷_, _++_, map}
@@ -7,10 +7,8 @@ use lib.ListN.{length, getD, replicate}
 use lib.Dec.{eqb}
 use Rattle.lists.specs.Lists.{anyOf}
 use Rattle.board.specs.declared.Net.{Net}
-use Rattle.board.specs.declared.StoredJob.{StoredJob}
 use Rattle.board.specs.Job.{Job}
-use Rattle.board.specs.Stored.{jobOf, noNet}
-use Rattle.board.specs.Accepted.{AcceptedJob}
+use Rattle.board.specs.Stored.{noNet}
 use Rattle.board.specs.Tests.{isOn, isBefore}
 
 -- some block is on track t

@@ -14,7 +14,6 @@ use Rattle.lines.specs.declared.Place.{Place}
 use Rattle.lines.specs.declared.Step.{Step}
 use Rattle.lines.specs.declared.Step.the-variants.{Line, End}
 use Rattle.lines.proofs.Steps.{stepped}
-use Rattle.layout.specs.Tree as Tree
 use Rattle.layoutforms.specs.declared.LayoutForm.{LayoutForm}
 use Rattle.layoutforms.specs.LayoutForms.{layoutFormOf}
 use Rattle.drc.specs.Standing.{linesRead}

@@ -1,11 +1,8 @@
 -- The candidates are the eligible nets of the job: any other net is passed over, and fits nowhere. Assumes nothing.
-use Prim.Native.Nat.{ℕ, suc, _≤_}
+use Prim.Native.Nat.{ℕ, suc}
 use mathlib.Core.Path.{_≡_}
 use mathlib.Core.Bool.{true, false}
-use mathlib.Core.List.{List, [], _∷_}
-use native.Mathlib.Omega.{arith}
-use lib.ListN.{length}
-use Rattle.lists.proofs.Cases.{by-test}
+use mathlib.Core.List.{List, _∷_}
 use Rattle.board.specs.declared.Net.{Net}
 use Rattle.board.specs.Job.{Job}
 use Rattle.board.specs.Tests.{isEligible}
@@ -27,13 +24,3 @@ module _ (job : Job) (earlier : List ℕ) (x : ℕ) (n : Net) (ns : List Net) wh
 pub other-fits : (job : Job) (earlier : List ℕ) (t : ℕ) (n : Net) (j : ℕ) → isEligible job earlier n ≡ false → fitsAt job earlier t n j ≡ false
 unfolding fitsAt
 other-fits job earlier t n j e = rw e
-
--- there are no more candidates than nets
-pub candidates-count : (job : Job) (earlier : List ℕ) (x : ℕ) (ns : List Net) → length (candidatesFrom job earlier x ns) ≤ length ns
-unfolding candidatesFrom
-candidates-count job earlier x [] = omega arith
-candidates-count job earlier x (n ∷ ns) =
-    let h = candidates-count job earlier (suc x) ns in
-    by-test (isEligible job earlier n)
-    (λ e. rw e (omega arith))
-    (λ e. rw e (omega arith))

@@ -16,8 +16,9 @@ use Rattle.board.proofs.Tops.{last-top-room, accepted-fits}
 use Rattle.board.specs.Tests.{isEligible}
 use Rattle.candidates.specs.declared.Candidates.{Candidates}
 use Rattle.candidates.specs.Gathered.{Candidate, candidatesFrom, candidatesOf, Slot, Slots, Gathered}
+use Rattle.candidates.proofs.Eligible.{candidates-length}
 use Rattle.choice.specs.Filled.{SlotInBounds, InBounds}
-use Rattle.choice.proofs.EligibleNets.{candidates-eligible, candidates-other, candidates-count}
+use Rattle.choice.proofs.EligibleNets.{candidates-eligible, candidates-other}
 
 module _ (job : Job) (earlier : List ℕ) (t : ℕ) (c : Candidates) (flags : List ℕ) where
   slot-bounds : (i : ℕ) (x : Candidate) → BoardInRange (job .board) → AcceptedNet (job .board) (x .net) → Slot job t c flags i x → SlotInBounds c (job .board .rows) i
@@ -47,7 +48,7 @@ module _ (job : Job) (earlier : List ℕ) (t : ℕ) (c : Candidates) (flags : Li
   pub gathered-bounds : AcceptedJob job → Gathered job earlier t c flags → 524288 ≤ length flags → InBounds c flags (job .board .rows)
   unfolding candidatesOf
   gathered-bounds a g f =
-      let m = candidates-count job earlier 0 (job .nets) in
+      let m = candidates-length job earlier (job .nets) 0 in
       let n = a .nets-count in
       record {
         rows-range = a .board-range .rows-range;

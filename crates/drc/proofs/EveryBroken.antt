@@ -2,14 +2,13 @@
 use Prim.Native.Nat.{ℕ, suc, _<_}
 use mathlib.Core.Path.{_≡_, refl}
 use mathlib.Core.Logic.{_↔_, ⊎-elim}
-use mathlib.Core.Bool.{true, false}
 use mathlib.Core.Option.{Option, none, some}
 use mathlib.Core.List.{List, [], _∷_, List·Memᴰ, List·Memᴰ·head, List·Memᴰ·tail, List·Memᴰ·cases-cons, List·Memᴰ·not-nil}
 use Rattle.lists.specs.Lists.{EachPair}
 use Rattle.lists.proofs.Cases.{by-test}
 use Rattle.board.specs.Job.{Job}
 use Rattle.board.specs.Accepted.{AcceptedJob}
-use Rattle.layout.specs.Tree.{Wire, Line}
+use Rattle.layout.specs.Tree.{Line}
 use Rattle.drc.specs.Standing.{linesRead, Above, beforeLayout, inLayout, behindLayout, withLine}
 use Rattle.drc.specs.Breach.{BreachFrom, at-line, further-down, out-of-place, ill-formed, stops-early, Breach}
 use Rattle.drc.specs.Judge.{isInPlace, keepsRules}

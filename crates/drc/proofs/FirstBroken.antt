@@ -13,7 +13,7 @@ use Rattle.layout.specs.Tree.{Wire, Line}
 use Rattle.drc.specs.Standing.{linesRead, Above, beforeLayout, inLayout, behindLayout, withLine}
 use Rattle.drc.specs.Breach.{BreachFrom, at-line, further-down, out-of-place, ill-formed, stops-early, Breach}
 use Rattle.drc.specs.Judge.{isInPlace, keepsRules, sound-text, broken-at, atTextEnd, judgeFrom, judge}
-use Rattle.drc.proofs.InPlace.{can-stand-of, in-place-of, not-in-place}
+use Rattle.drc.proofs.InPlace.{can-stand-of, not-in-place}
 use Rattle.drc.proofs.LineRules.{fails-line, passes-line}
 
 -- a broken line stands at or below the first of the lines

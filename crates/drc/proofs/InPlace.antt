@@ -1,11 +1,11 @@
 -- The test of which line can stand there is exact. Assumes nothing.
 use Prim.Native.Nat.{ℕ, suc, _≤_}
 use mathlib.Core.Path.{_≡_, refl, sym, _∙_}
-use mathlib.Core.Bool.{Bool, true, false, _&&_, true≢false, false≢true}
-use mathlib.Core.List.{List, [], _∷_, _++_}
+use mathlib.Core.Bool.{true, false, _&&_, true≢false, false≢true}
+use mathlib.Core.List.{List, [], _∷_}
 use lib.Dec.{eqb, leb}
 use borrow.Author.Tests.{eqb-true, eq-eqb, leb-true, le-leb}
-use Rattle.lists.proofs.Cases.{by-test, and-split, and-both}
+use Rattle.lists.proofs.Cases.{and-split, and-both}
 use Rattle.board.specs.Job.{Job}
 use Rattle.layout.specs.Tree.{Wire, Line, opens, track, wire, loose, closes}
 use Rattle.drc.specs.Standing.{Above, beforeLayout, inLayout, behindLayout, CanStand, opening-first, track-in-turn, wire-under-track, loose-behind-tracks, closing-behind-tracks}

@@ -19,7 +19,7 @@ use Rattle.sound.specs.Wires.{worthOf, sumOver, wireNumbers, trackNumbers, wire
 use Rattle.drc.specs.Standing.{Above, beforeLayout, inLayout, behindLayout, withLine, numbersAbove}
 use Rattle.drc.specs.Judge.{noneLoose, endsTrack, isInTurn, isOpening, isInPlace, isTrueSum, keepsRules, sound-text, atTextEnd, judgeFrom}
 use Rattle.drc.proofs.Lines.{ofForm}
-use Rattle.drc.proofs.InPlace.{UnderTrack, under-track, NextTrack, next-in-turn}
+use Rattle.drc.proofs.InPlace.{under-track, next-in-turn}
 use Rattle.drc.proofs.WireRule.{WireKept, wire-kept}
 use Rattle.drc.proofs.LooseRule.{LooseKept, loose-kept}
 use Rattle.drc.proofs.FirstBroken.{not-sound}

@@ -1,23 +1,22 @@
 -- A line of the form that can stand there breaks a rule exactly if it fails its test. Assumes nothing.
-use Prim.Native.Nat.{ℕ, _<_}
+use Prim.Native.Nat.{_<_}
 use mathlib.Core.Path.{_≡_}
 use mathlib.Core.Bool.{true, false, true≢false}
 use mathlib.Core.Option.{Option}
-use mathlib.Core.List.{List, _++_, List·Memᴰ}
-use Rattle.lists.specs.Lists.{EachPair, allOf}
+use mathlib.Core.List.{List, _++_}
+use Rattle.lists.specs.Lists.{EachPair}
 use Rattle.lists.proofs.Laws.{allOf-at}
 use Rattle.lists.proofs.Joins.{allOf-false}
-use Rattle.board.specs.declared.Net.{Net}
 use Rattle.board.specs.Job.{Job}
 use Rattle.board.specs.Tests.{isOn}
 use Rattle.board.proofs.ExactTests.{on-listed, listed-on}
-use Rattle.layout.specs.Tree.{Wire, Line, opens, track, wire, loose, closes}
+use Rattle.layout.specs.Tree.{Line, opens, track, wire, loose, closes}
 use Rattle.sound.specs.Wires.{wireNumbers}
 use Rattle.drc.specs.Standing.{Above, beforeLayout, inLayout, behindLayout, numbersAbove}
 use Rattle.drc.specs.Breach.{LineBreach, false-sum, wire-rule, loose-rule, missing-net}
 use Rattle.drc.specs.Judge.{isInPlace, isTrueSum, keepsRules}
 use Rattle.drc.proofs.FailedTests.{passes-and-fails}
-use Rattle.drc.proofs.InPlace.{UnderTrack, under-track}
+use Rattle.drc.proofs.InPlace.{under-track}
 use Rattle.drc.proofs.SumRule.{fails-sum, false-sum-fails}
 use Rattle.drc.proofs.WireRule.{wire-kept, fails-wire, kept-unbroken}
 use Rattle.drc.proofs.LooseRule.{fails-loose, passes-loose}

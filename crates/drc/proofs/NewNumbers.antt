@@ -1,6 +1,6 @@
 -- Numbers that are new one after another are distinct. Assumes nothing.
 use Prim.Native.Nat.{ℕ}
-use mathlib.Core.Path.{_≡_, refl, sym}
+use mathlib.Core.Path.{sym}
 use mathlib.Core.List.{List, [], _∷_, _++_, append-assoc, append-nil, List·Memᴰ, List·Memᴰ·head, Memᴰ·append-left, Memᴰ·append-right}
 use Rattle.lists.specs.Lists.{Each}
 use Rattle.lists.proofs.Laws.{Each-map}

@@ -7,17 +7,17 @@ use mathlib.Core.Option.{Option, none, some}
 use mathlib.Core.List.{List, [], _∷_, _++_}
 use native.Mathlib.Omega.{arith}
 use lib.Dec.{eqb, leb, ltb}
-use borrow.Author.Tests.{eqb-true, eq-eqb, leb-true, le-leb}
+use borrow.Author.Tests.{eqb-true, leb-true, le-leb}
 use Rattle.lists.specs.Lists.{allOf}
 use Rattle.lists.proofs.Cases.{by-test, and-split}
 use Rattle.board.specs.Job.{Job}
 use Rattle.board.specs.Accepted.{AcceptedJob}
 use Rattle.board.specs.Tests.{isOn}
 use Rattle.layout.specs.Tree.{Wire, Line, opens, track, wire, loose, closes}
-use Rattle.sound.specs.Wires.{worthOf, wireNumbers}
-use Rattle.drc.specs.Standing.{linesRead, Above, beforeLayout, inLayout, behindLayout, withLine, numbersAbove}
+use Rattle.sound.specs.Wires.{wireNumbers}
+use Rattle.drc.specs.Standing.{linesRead, Above, beforeLayout, inLayout, behindLayout, withLine}
 use Rattle.drc.specs.Covers.{drawnBy}
-use Rattle.drc.specs.Judge.{noneLoose, endsTrack, isInTurn, isOpening, isInPlace, isTrueSum, isSoundWire, isUnlined, isSoundLoose, keepsRules, Verdict, broken-at, atTextEnd, judgeFrom, judge}
+use Rattle.drc.specs.Judge.{noneLoose, endsTrack, isInTurn, isOpening, isInPlace, isTrueSum, isSoundWire, isUnlined, keepsRules, Verdict, broken-at, atTextEnd, judgeFrom, judge}
 use Rattle.drc.specs.Pass.{Summary, emptySummary, addTrack, isNextWire, breachAfter, addWire, addLoose, PassState, unbegun, running, finished, PassStep, passes-on, decides, closedAt, unlessBreach, judgedTrack, orBroken, passInTurn, passLine, passIllFormed, passStep, passEnd, afterStep, passFrom, passOver}
 use Rattle.drc.proofs.InPlace.{no-loose-lines}
 use Rattle.drc.proofs.JudgedTree.{some-loose}

@@ -2,7 +2,7 @@
 -- sound. Assumes nothing.
 use Prim.Native.Nat.{ℕ, suc, _+_, _≤_}
 use mathlib.Core.Path.{_≡_, refl}
-use mathlib.Core.Bool.{Bool, true, not, _&&_, _||_, or-true}
+use mathlib.Core.Bool.{Bool, true, not, _||_, or-true}
 use mathlib.Core.Option.{Option, some}
 use mathlib.Core.List.{List, [], _∷_, _++_, List·Memᴰ, append-assoc, append-nil}
 use native.Mathlib.Omega.{arith}

@@ -1,7 +1,7 @@
 -- The tree of a sound layout keeps the rules line by line. Assumes nothing.
 use Prim.Native.Nat.{ℕ, suc, _+_, _≤_, _<_}
 use mathlib.Core.Path.{_≡_, refl, sym, ap, _∙_}
-use mathlib.Core.Option.{some, Option·some-injective}
+use mathlib.Core.Option.{Option·some-injective}
 use mathlib.Core.Logic.{⊎-elim}
 use mathlib.Core.List.{List, [], _∷_, _++_, map, map-append, append-assoc, List·Memᴰ, List·Memᴰ·head, List·Memᴰ·append-cases, Memᴰ·append-left, Memᴰ·append-right, Memᴰ·map, Memᴰ·of-map}
 use native.Mathlib.Omega.{arith}
@@ -24,7 +24,7 @@ use Rattle.sound.specs.Wires.{wireNumbers, trackNumbers}
 use Rattle.sound.specs.Sound.{SoundPlacement, SoundTrack, SoundTracks}
 use Rattle.sound.proofs.Sums.{Distinct}
 use Rattle.drc.specs.Breach.{Draws}
-use Rattle.drc.specs.Covers.{drawnBy, coversOf}
+use Rattle.drc.specs.Covers.{coversOf}
 use Rattle.drc.proofs.Drawings.{drawn-of, covers-of}
 use Rattle.drc.proofs.WireRule.{WireKept, draws-legal}
 use Rattle.drc.proofs.RulesByLine.{KeptWires, KeptTracks, KeptLoose}

@@ -1,7 +1,7 @@
 -- The sum rule: the test of a track line fails exactly at a false sum. Assumes nothing.
-use Prim.Native.Nat.{ℕ, suc, _+_}
+use Prim.Native.Nat.{ℕ, _+_}
 use mathlib.Core.Path.{_≡_, refl, ap}
-use mathlib.Core.Bool.{Bool, true, false, not, _&&_, _||_, true≢false}
+use mathlib.Core.Bool.{true, false, not, _||_, true≢false}
 use mathlib.Core.Option.{Option, none, some}
 use mathlib.Core.List.{List, [], _∷_, _++_, map}
 use native.Mathlib.Omega.{arith}
@@ -10,7 +10,7 @@ use borrow.Author.Tests.{eqb-false, ne-eqb, not-false}
 use Rattle.board.specs.Job.{Job}
 use Rattle.layout.specs.Tree.{Wire, Line, opens, track, wire, loose, closes}
 use Rattle.sound.specs.Wires.{worthOf, sumOver, wireNumbers, wiresSum}
-use Rattle.drc.specs.Standing.{inLayout, CanStand}
+use Rattle.drc.specs.Standing.{inLayout}
 use Rattle.drc.specs.Breach.{EndsWires, next-track, first-loose, last-line, FalseSum}
 use Rattle.drc.specs.Judge.{noneLoose, endsTrack, isInTurn, isInPlace, isTrueSum}
 use Rattle.drc.proofs.FailedTests.{or-fails}

@@ -1,13 +1,13 @@
 -- What a pass keeps of the lines above tells as much as they do, as long as none of them is broken. Assumes nothing.
-use Prim.Native.Nat.{ℕ, suc, _≤_, _<_}
-use mathlib.Core.Path.{_≡_, refl, sym, ap, ap₂, _∙_}
-use mathlib.Core.Bool.{Bool, true, false, cond, not, _&&_, true≢false, and-false}
-use mathlib.Core.Option.{Option, none, some}
-use mathlib.Core.List.{List, [], _∷_, _++_, map, map-append, append-assoc, append-nil, List·Memᴰ, Memᴰ·of-map}
+use Prim.Native.Nat.{ℕ, _≤_, _<_}
+use mathlib.Core.Path.{_≡_, refl, sym, ap, _∙_}
+use mathlib.Core.Bool.{true, false, not, _&&_, true≢false, and-false}
+use mathlib.Core.Option.{none, some}
+use mathlib.Core.List.{List, [], _∷_, _++_, map, map-append, append-assoc, append-nil, Memᴰ·of-map}
 use native.Mathlib.Omega.{arith}
 use lib.Dec.{eqb, ltb}
-use borrow.Author.Tests.{eqb-true, ne-eqb, ltb-true, ltb-false, lt-ltb, le-ltb}
-use Rattle.lists.specs.Lists.{EachPair, anyOf, allOf}
+use borrow.Author.Tests.{ne-eqb, ltb-true, lt-ltb}
+use Rattle.lists.specs.Lists.{anyOf, allOf}
 use Rattle.lists.proofs.Cases.{by-test, by-option, and-split}
 use Rattle.lists.proofs.Laws.{anyOf-mem}
 use Rattle.lists.proofs.Joins.{allOf-append}
@@ -16,7 +16,7 @@ use Rattle.board.specs.Placement.{Placement, bottom}
 use Rattle.board.specs.Accepted.{AcceptedJob}
 use Rattle.layout.specs.Tree.{Wire}
 use Rattle.sound.specs.Wires.{wireNumbers}
-use Rattle.drc.specs.Standing.{Above, inLayout, numbersAbove}
+use Rattle.drc.specs.Standing.{numbersAbove}
 use Rattle.drc.specs.Covers.{drawnBy, coversOf}
 use Rattle.drc.specs.Judge.{noneLoose, isBelow, isSoundPlace, isSoundWire, isUnlined, isSoundLoose}
 use Rattle.drc.specs.Pass.{Summary, emptySummary, addTrack, isNextWire, lowestOf, breachAfter, addWire, addLoose}

@@ -1,7 +1,7 @@
 -- The verdict in one pass over the lines, with nothing looked ahead and no wire looked back at: what a loop keeps of the lines above, and
 -- one step of it. proofs/OnePass.antt shows that it is the same verdict.
 use Prim.Native.Nat.{ℕ, suc, _+_}
-use mathlib.Core.Bool.{Bool, true, false, cond, _&&_}
+use mathlib.Core.Bool.{Bool, false, cond, _&&_}
 use mathlib.Core.Option.{Option, none, some}
 use mathlib.Core.List.{List, [], _∷_, _++_}
 use lib.Dec.{eqb, ltb}

@@ -1,19 +1,15 @@
 -- The sums of a plan by value, added up: they are those of its tracks, and at most 524,288. Assumes nothing.
-use Prim.Native.Nat.{ℕ, zero, suc, _+_, _-_, _*_, _≤_, _<_}
-use mathlib.Core.Path.{_≡_, refl, ap, _∙_}
-use mathlib.Core.List.{List, [], _∷_, _++_, map, List·Memᴰ}
+use Prim.Native.Nat.{ℕ, zero, suc, _+_, _-_, _≤_, _<_}
+use mathlib.Core.Path.{_≡_, refl, ap}
+use mathlib.Core.List.{List, [], _∷_, _++_, map}
 use native.Mathlib.Omega.{arith}
 use lib.ListN.{length, getD, take, replicate}
-use Rattle.lists.specs.Lists.{Each}
-use Rattle.lists.proofs.Joins.{Each-each}
-use Rattle.board.specs.declared.Net.{Net}
 use Rattle.board.specs.Job.{Job}
 use Rattle.board.specs.Accepted.{AcceptedJob}
-use Rattle.board.specs.Rival.{worthSum}
 use Rattle.board.specs.Unbeaten.{FilledTrack}
-use Rattle.board.proofs.ShortestShape.{worth-needed}
+use Rattle.board.proofs.JobWorth.{job-worth}
 use Rattle.planning.specs.Plan.{planOf}
-use Rattle.planning.specs.Loose.{sumOfTracks, looseOf}
+use Rattle.planning.specs.Loose.{sumOfTracks}
 use Rattle.planning.proofs.Balance.{sums-add-up}
 use Rattle.planner.specs.JobPlans.{storedPlan, jobPlanOf}
 use Rattle.exports.specs.Exported.{addedUp}
@@ -51,11 +47,5 @@ unfolding jobPlanOf storedPlan
 added-plan job = added-tracks (planOf job) (128 - length (planOf job))
 
 -- ---- the sums are within what the nets of the job are worth
-module _ (job : Job) (a : AcceptedJob job) where
-  worth-most : (ns : List Net) → Each (λ n. List·Memᴰ n (job .nets)) ns → worthSum (job .board) ns ≤ 1024 * length ns
-  unfolding worthSum
-  worth-most [] i = omega arith
-  worth-most (n ∷ ns) i = omega (arith, worth-needed (job .board) n, a .nets-each n (i .0) .fits-board, a .board-range .rows-range, worth-most ns (i .1))
-
-  pub added-most : addedUp (jobPlanOf job .sums) ≤ 524288
-  added-most = omega (arith, added-plan job, sums-add-up job a, worth-most (job .nets) (Each-each (job .nets) (λ n i. i)), a .nets-count)
+pub added-most : (job : Job) → AcceptedJob job → addedUp (jobPlanOf job .sums) ≤ 524288
+added-most job a = omega (arith, added-plan job, sums-add-up job a, job-worth job a)

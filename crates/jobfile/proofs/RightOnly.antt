@@ -4,14 +4,13 @@ use Prim.Native.Nat.{ℕ, zero, suc}
 use mathlib.Core.Path.{_≡_, refl, sym, ap, _∙_}
 use mathlib.Core.List.{List}
 use native.Mathlib.Omega.{arith}
-use Rattle.board.specs.Job.{Job}
-use Rattle.board.specs.Stored.{jobOf, storedOf}
+use Rattle.board.specs.Stored.{jobOf}
 use Rattle.board.proofs.StoredJobs.{job-back}
 use Rattle.jobfile.specs.declared.Answer.{Answer}
 use Rattle.jobfile.specs.declared.Outcome.{Outcome}
 use Rattle.jobfile.specs.declared.Outcome.the-variants as Is
-use Rattle.jobfile.specs.Read.{Read, accepted, refused, readJob}
-use Rattle.jobfile.specs.Answers.{numberOf, lineOf, answerOf, answer, noJob}
+use Rattle.jobfile.specs.Read.{accepted, refused}
+use Rattle.jobfile.specs.Answers.{numberOf, answerOf, answer}
 use Rattle.jobfile.specs.Faults.{formsOf, jobIn}
 use Rattle.jobfile.specs.RightAnswer.{RightAnswer}
 use Rattle.jobfile.proofs.Refusals.{first-refused, faultless-accepted}

@@ -7,6 +7,7 @@ use lib.Dec.{eqb}
 use borrow.Author.Tests.{eqb-true, eqb-false, eq-eqb, ne-eqb}
 use Rattle.lists.specs.Lists.{anyOf, allOf}
 use Rattle.lists.proofs.Cases.{by-test}
+use Rattle.lists.proofs.Joins.{anyOf-more}
 use Rattle.board.specs.declared.Net.{Net}
 use Rattle.board.specs.declared.Board.{Board}
 use Rattle.board.specs.Accepted.{BoardInRange, NetInRange}
@@ -29,17 +30,6 @@ pub pins-none : (used : UsedPins) → ((k : ℕ) → isSet (used .left .words) k
 unfolding anyOf
 pins-none used l r = record { left-is = l; right-is = r }
 
-or-swap : (a b c : Bool) → ((a || (b || c))) ≡ (b || (a || c))
-or-swap true true c = refl
-or-swap true false c = refl
-or-swap false true c = refl
-or-swap false false c = refl
-
-any-more : {A : Type 0} (f : A → Bool) (xs : List A) (x : A) → anyOf f (xs ++ (x ∷ [])) ≡ (f x || anyOf f xs)
-unfolding anyOf
-any-more f [] x = refl
-any-more f (y ∷ xs) x = ap (λ (b : Bool). f y || b) (any-more f xs x) ∙ or-swap (f y) (f x) (anyOf f xs)
-
 -- one net more
 pub pins-more : (nets : List Net) (n : Net) (used more : UsedPins) →
     ((k : ℕ) → isSet (more .left .words) k ≡ (eqb k (n .left .0) || isSet (used .left .words) k)) →
@@ -47,8 +37,8 @@ pub pins-more : (nets : List Net) (n : Net) (used more : UsedPins) →
     PinsOf nets used → PinsOf (nets ++ (n ∷ [])) more
 pins-more nets n used more l r p =
     record {
-      left-is = λ k. l k ∙ ap (λ (b : Bool). eqb k (n .left .0) || b) (p .left-is k) ∙ sym (any-more (λ m. eqb k (m .left .0)) nets n);
-      right-is = λ k. r k ∙ ap (λ (b : Bool). eqb k (n .right .0) || b) (p .right-is k) ∙ sym (any-more (λ m. eqb k (m .right .0)) nets n);
+      left-is = λ k. l k ∙ ap (λ (b : Bool). eqb k (n .left .0) || b) (p .left-is k) ∙ sym (anyOf-more (λ m. eqb k (m .left .0)) nets n);
+      right-is = λ k. r k ∙ ap (λ (b : Bool). eqb k (n .right .0) || b) (p .right-is k) ∙ sym (anyOf-more (λ m. eqb k (m .right .0)) nets n);
     }
 
 -- refusal 6: no net above has either row

@@ -1,6 +1,7 @@
--- The index of a net by its number: the numbers of a job's nets in an array, and the first place of a number there. Assumes nothing.
+-- The index of a net by its number: the numbers of a job's nets in an array, the first place of a number there, and the net found.
+-- Assumes nothing.
 use Prim.Native.Nat.{ℕ, zero, suc, _+_, _≤_, _<_}
-use mathlib.Core.Path.{_≡_, refl, sym, ap, _∙_}
+use mathlib.Core.Path.{_≡_, refl, sym, ap, subst, _∙_}
 use mathlib.Core.Bool.{Bool, true, false}
 use mathlib.Core.List.{List, [], _∷_, map, map-append, List·Memᴰ}
 use native.Mathlib.Omega.{arith}
@@ -9,16 +10,20 @@ use lib.ListN.{length, getD, take, set, replicate, length-map}
 use lib.Seq.{getD-take, length-take-le}
 use borrow.Author.Tests.{eq-eqb, ne-eqb, eqb-true, eqb-false}
 use Rattle.lists.proofs.Cases.{by-test}
-use Rattle.lists.proofs.Places.{take-more, map-at}
+use Rattle.lists.proofs.Places.{take-more, mem-at, map-at}
 use Rattle.board.specs.declared.Net.{Net}
 use Rattle.board.specs.declared.StoredJob.{StoredJob}
 use Rattle.board.specs.Job.{Job}
+use Rattle.board.specs.Length.{worth}
 use Rattle.board.specs.Stored.{jobOf, noNet}
 use Rattle.board.specs.Accepted.{AcceptedJob}
+use Rattle.sound.specs.Wires.{worthOf}
+use Rattle.sound.proofs.Nets.{worth-of}
 use Rattle.candidates.specs.Placed.{padded, indexFrom}
 use Rattle.candidates.proofs.Prefixes.{padded-more}
 use Rattle.candidates.proofs.Eligible.{index-cases}
-use Rattle.judging.specs.Values.{isNumbered}
+use Rattle.judging.specs.declared.NetFound.{NetFound}
+use Rattle.judging.specs.Values.{isNumbered, NetIs}
 
 -- ---- the numbers of nets in an array
 
@@ -113,3 +118,14 @@ index-none job k index a is e =
     index-cases (isNumbered k) (job .nets) 0
     (λ none f. none)
     (λ i h t f. let z : i ≡ 512 = omega (arith, sym (is ∙ f) ∙ e) in absurd (omega (arith, a .nets-count)))
+
+-- ---- the net found
+
+module _ (job : Job) (found : NetFound) (is : NetIs job found) where
+  -- it is a net of the job
+  pub found-listed : List·Memᴰ (found .net) (job .nets)
+  found-listed = subst (λ q. List·Memᴰ q (job .nets)) (is .net-is) (mem-at (job .nets) (found .index) noNet (is .index-range))
+
+  -- a wire of its number counts what it is worth
+  pub found-worth : AcceptedJob job → (k : ℕ) → found .net .number ≡ k → worthOf job k ≡ worth (job .board) (found .net)
+  found-worth a k e = ap (worthOf job) (sym e) ∙ worth-of job (a .numbers-rise) (found .net) found-listed

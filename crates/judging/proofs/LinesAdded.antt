@@ -12,6 +12,7 @@ use borrow.Author.Tests.{eq-eqb, ne-eqb, eqb-true, eqb-false, le-ltb}
 use Rattle.lists.specs.Lists.{Each, EachPair, anyOf}
 use Rattle.lists.proofs.Laws.{Each-at, mem-anyOf}
 use Rattle.lists.proofs.Cases.{by-test, and-split}
+use Rattle.lists.proofs.Joins.{anyOf-more}
 use Rattle.lists.proofs.Places.{mem-at, map-at}
 use Rattle.board.specs.declared.Board.{Board}
 use Rattle.board.specs.declared.Net.{Net}
@@ -24,7 +25,6 @@ use Rattle.board.specs.Accepted.{AcceptedJob}
 use Rattle.board.specs.Tests.{isOn, isBefore, isLong, isShort, isClear, isReady}
 use Rattle.blockmap.specs.Clear.{allUnset}
 use Rattle.candidates.specs.Placed.{indexFrom, Placed}
-use Rattle.candidates.proofs.Prefixes.{anyOf-more}
 use Rattle.candidates.proofs.Eligible.{all-on}
 use Rattle.candidates.proofs.Slots.{clear-same}
 use Rattle.drc.specs.Judge.{isSoundPlace, isUnlined}

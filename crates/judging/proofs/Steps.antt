@@ -3,24 +3,21 @@ use Prim.Native.Nat.{ℕ, suc, _+_, _-_, _≤_, _<_}
 use mathlib.Core.Path.{_≡_, refl, sym, ap, ap₂, subst, _∙_}
 use mathlib.Core.Bool.{Bool, true, false, not, _&&_, and-true, true≢false, false≢true}
 use mathlib.Core.Option.{Option, none, some}
-use mathlib.Core.List.{List, List·Memᴰ}
+use mathlib.Core.List.{List}
 use native.Mathlib.Omega.{arith}
 use lib.Dec.{eqb, leb, ltb}
 use lib.ListN.{length, getD, set}
 use borrow.Author.Tests.{eq-eqb, eqb-true, eqb-false, leb-true, lt-ltb, not-true}
 use Rattle.lists.specs.Lists.{anyOf, allOf}
 use Rattle.lists.proofs.Cases.{by-test, and-split}
-use Rattle.lists.proofs.Places.{mem-at}
 use Rattle.board.specs.declared.Shape.{Shape}
 use Rattle.board.specs.Job.{Job}
 use Rattle.board.specs.Length.{span, extra, worth}
 use Rattle.board.specs.Placement.{Placement, placementAt, covered}
-use Rattle.board.specs.Stored.{noNet}
 use Rattle.board.specs.Accepted.{AcceptedJob}
 use Rattle.board.specs.Tests.{isOn}
 use Rattle.layout.specs.Tree.{Wire, Line, opens, track, wire, loose, closes}
 use Rattle.sound.specs.Wires.{worthOf}
-use Rattle.sound.proofs.Nets.{worth-of}
 use Rattle.candidates.specs.Placed.{indexFrom}
 use Rattle.drc.specs.Covers.{drawnBy}
 use Rattle.drc.specs.Judge.{endsTrack, isInTurn, isOpening, isUnlined}
@@ -32,7 +29,7 @@ use Rattle.judging.specs.Values.{isNumbered, allLined, isNextAt, firstBr
 use Rattle.judging.proofs.ValueTests.{closed-here, closed-above, settled-sum, settled-wire, settled-kept, lowest-row, breach-before, breach-still-none, breach-here}
 use Rattle.judging.proofs.Turns.{breach-none, breach-some, canStand, closes-off, settled-off, settled-on}
 use Rattle.judging.proofs.LinedNets.{lined-same}
-use Rattle.judging.proofs.Indexes.{index-number}
+use Rattle.judging.proofs.Indexes.{index-number, found-worth}
 use Rattle.judging.proofs.LinesAdded.{line-added, unlined-same, next-same, next-new}
 
 -- ---- numbers in range
@@ -353,11 +350,6 @@ module _ (job : Job) (n : ℕ) (line : LineInRange n) (s : Summary) (w : Wire) (
     abbrev next : Bool
     next = isNextAt (job .board) words stands found j top shape
 
-    drawn-worth : worthOf job (w .number) ≡ worth (job .board) (found .net)
-    drawn-worth =
-        let member = subst (λ q. List·Memᴰ q (job .nets)) (is .net-is) (mem-at (job .nets) (found .index) noNet (is .index-range)) in
-        ap (worthOf job) (sym numbered) ∙ worth-of job (a .numbers-rise) (found .net) member
-
     new-net : next ≡ true → getD stands (found .index) 0 ≡ 0
     new-net t = eqb-true (getD stands (found .index) 0) 0 (next-new (job .board) words stands found j top shape t)
 
@@ -374,7 +366,7 @@ module _ (job : Job) (n : ℕ) (line : LineInRange n) (s : Summary) (w : Wire) (
           track-is = h .track-is;
           line-is = h .line-is;
           printed-is = h .printed-is;
-          sum-is = ap₂ (λ x y. x + y) (h .sum-is) drawn-worth;
+          sum-is = ap₂ (λ x y. x + y) (h .sum-is) (found-worth job found is a (w .number) numbered);
           lowest-is = refl;
           last-is = h .last-is;
           breach-is =

@@ -1,13 +1,13 @@
 // The lines of a layout judged one by one: what the check keeps of the lines above, by value, and what each line leads to.
 ghost use mathlib.Core.Path.{_≡_};
-ghost use mathlib.Core.List.{List, [], map};
+ghost use mathlib.Core.List.{List, map};
 ghost use mathlib.Core.Option.{none, some};
-ghost use Prim.Native.Nat.{ℕ, _+_, _*_, _-_, _≤_, _<_};
-ghost use lib.ListN.{length, take, getD};
+ghost use Prim.Native.Nat.{ℕ, _+_, _-_, _≤_, _<_};
+ghost use lib.ListN.{length, take};
 ghost use Rattle.board.specs.declared.Net.{Net};
 ghost use Rattle.board.specs.Job.{Job};
-ghost use Rattle.board.specs.Length.{span, extra};
-ghost use Rattle.board.specs.Placement.{placementAt, bottom};
+ghost use Rattle.board.specs.Length.{extra};
+ghost use Rattle.board.specs.Placement.{placementAt};
 ghost use Rattle.board.specs.Stored.{jobOf, AcceptedStored};
 ghost use Rattle.board.specs.Accepted.{BoardInRange, AcceptedNet, AcceptedJob};
 ghost use Rattle.blockmap.specs.Clear.{allUnset};

@@ -1,10 +1,10 @@
 -- A drawing has the length of its shape. Assumes nothing.
-use Prim.Native.Nat.{ℕ, _+_, _*_, _-_, _≤_, _<_, min, max}
+use Prim.Native.Nat.{ℕ, _+_, _*_, _≤_, _<_}
 use mathlib.Core.Path.{_≡_, refl, sym, ap, _∙_}
-use mathlib.Core.Bool.{true, false, cond}
+use mathlib.Core.Bool.{true}
 use mathlib.Core.List.{List, [], _∷_}
 use native.Mathlib.Omega.{arith}
-use lib.Dec.{leb, ltb, eqb}
+use lib.Dec.{leb, ltb}
 use borrow.Author.Tests.{leb-true, leb-false, ltb-true, ltb-false, eqb-true}
 use Rattle.lists.proofs.Cases.{by-test, and-split}
 use Rattle.board.specs.declared.Net.{Net}

@@ -13,7 +13,7 @@ use Rattle.board.specs.declared.Shape.{Shape}
 use Rattle.board.specs.declared.Shape.the-variants.{Plain, Stretched}
 use Rattle.board.specs.Length.{width, upper, span}
 use Rattle.board.specs.Job.{Job}
-use Rattle.board.specs.Placement.{Placement, bottom}
+use Rattle.board.specs.Placement.{Placement, placementAt, bottom}
 use Rattle.board.proofs.ShortestShape.{span-add}
 use Rattle.layout.specs.Tree.{Point, Wire}
 use Rattle.layout.specs.Drawing.{viaColumn, wireColumn, at, samePoint, distinctFrom, nearRow, farRow, corners, pointsOn, wireOf}
@@ -63,9 +63,6 @@ lastIn-distinct c d p (q ∷ qs) =
 
 -- ---- the placement of a drawing
 
-abbrev placed : Net → Shape → ℕ → Placement
-placed n s r = record { net = n; shape = s; top = r }
-
 module _ (job : Job) (t : ℕ) (on-track : 1 ≤ t) where
   pin-column : eqb 0 (wireColumn t) ≡ false
   unfolding wireColumn
@@ -82,21 +79,21 @@ module _ (job : Job) (t : ℕ) (on-track : 1 ≤ t) where
   wire-column : eqb (wireColumn t) (wireColumn t) ≡ true
   wire-column = eq-eqb (wireColumn t) (wireColumn t) refl
 
-  plain-first : (n : Net) (r : ℕ) → firstIn (wireColumn t) (pointsOn (job .board) t (placed n Plain r)) ≡ none
+  plain-first : (n : Net) (r : ℕ) → firstIn (wireColumn t) (pointsOn (job .board) t (placementAt n Plain r)) ≡ none
   unfolding pointsOn corners firstIn
   plain-first n r =
-      firstIn-distinct (wireColumn t) (at 0 (n .left .0)) (corners (job .board) t (placed n Plain r) Plain) ∙ rw (pin-column, via-column, last-column)
+      firstIn-distinct (wireColumn t) (at 0 (n .left .0)) (corners (job .board) t (placementAt n Plain r) Plain) ∙ rw (pin-column, via-column, last-column)
 
-  stretched-first : (n : Net) (e r : ℕ) → firstIn (wireColumn t) (pointsOn (job .board) t (placed n (Stretched e) r)) ≡ some (nearRow (placed n (Stretched e) r))
+  stretched-first : (n : Net) (e r : ℕ) → firstIn (wireColumn t) (pointsOn (job .board) t (placementAt n (Stretched e) r)) ≡ some (nearRow (placementAt n (Stretched e) r))
   unfolding pointsOn corners firstIn
   stretched-first n e r =
-      firstIn-distinct (wireColumn t) (at 0 (n .left .0)) (corners (job .board) t (placed n (Stretched e) r) (Stretched e)) ∙
+      firstIn-distinct (wireColumn t) (at 0 (n .left .0)) (corners (job .board) t (placementAt n (Stretched e) r) (Stretched e)) ∙
       rw (pin-column, via-column, wire-column)
 
-  stretched-last : (n : Net) (e r d : ℕ) → lastIn (wireColumn t) d (pointsOn (job .board) t (placed n (Stretched e) r)) ≡ farRow (placed n (Stretched e) r)
+  stretched-last : (n : Net) (e r d : ℕ) → lastIn (wireColumn t) d (pointsOn (job .board) t (placementAt n (Stretched e) r)) ≡ farRow (placementAt n (Stretched e) r)
   unfolding pointsOn corners lastIn
   stretched-last n e r d =
-      lastIn-distinct (wireColumn t) d (at 0 (n .left .0)) (corners (job .board) t (placed n (Stretched e) r) (Stretched e)) ∙
+      lastIn-distinct (wireColumn t) d (at 0 (n .left .0)) (corners (job .board) t (placementAt n (Stretched e) r) (Stretched e)) ∙
       rw (wire-column, via-column, last-column)
 
   -- the two rows of the stretched part are its top and its bottom
@@ -104,17 +101,17 @@ module _ (job : Job) (t : ℕ) (on-track : 1 ≤ t) where
   unfolding nearRow farRow
   ends p = by-test (ltb (p .net .left .0) (p .net .right .0)) (λ e. rw e (omega arith)) (λ e. rw e (omega arith))
 
-  back : (n : Net) (s : Shape) (r : ℕ) → Fixed (placed n s r) → placementOf t n (pointsOn (job .board) t (placed n s r)) ≡ placed n s r
+  back : (n : Net) (s : Shape) (r : ℕ) → Fixed (placementAt n s r) → placementOf t n (pointsOn (job .board) t (placementAt n s r)) ≡ placementAt n s r
   unfolding placementOf placementFrom
   back n Plain r f =
       let e : upper n ≡ r = omega (arith, span-add n) in
-      ap (placementFrom n (pointsOn (job .board) t (placed n Plain r)) t) (plain-first n r) ∙ ap (placed n Plain) e
+      ap (placementFrom n (pointsOn (job .board) t (placementAt n Plain r)) t) (plain-first n r) ∙ ap (placementAt n Plain) e
   back n (Stretched e) r f =
-      let p = placed n (Stretched e) r in
+      let p = placementAt n (Stretched e) r in
       let x = ends p in
       let a : max (nearRow p) (farRow p) - min (nearRow p) (farRow p) - span n ≡ e = omega arith in
       ap (placementFrom n (pointsOn (job .board) t p) t) (stretched-first n e r) ∙
-      (rw (stretched-last n e r (nearRow p)) (λ i. placed n (Stretched (a i)) (x .0 i)))
+      (rw (stretched-last n e r (nearRow p)) (λ i. placementAt n (Stretched (a i)) (x .0 i)))
 
   pub placement-back : (p : Placement) → Fixed p → placementOf t (p .net) (pointsOn (job .board) t p) ≡ p
   placement-back p f = back (p .net) (p .shape) (p .top) f

@@ -1,8 +1,7 @@
 -- Document 01, "Board and grid": the points of a drawing lie on the grid. They begin in column 0 at the row of the left pin; all points but
 -- those at the two pins lie in the two columns of the track, on rows that the placement covers. Assumes nothing.
-use Prim.Native.Nat.{ℕ, _+_, _*_, _-_, _≤_}
+use Prim.Native.Nat.{ℕ, _≤_}
 use mathlib.Core.Path.{_≡_, refl}
-use mathlib.Core.Bool.{cond}
 use mathlib.Core.List.{List, [], _∷_}
 use native.Mathlib.Omega.{arith}
 use lib.Dec.{ltb}
@@ -12,7 +11,7 @@ use Rattle.lists.proofs.Laws.{Each-map}
 use Rattle.board.specs.declared.Board.{Board}
 use Rattle.board.specs.declared.Shape.{Shape}
 use Rattle.board.specs.declared.Shape.the-variants.{Plain, Stretched}
-use Rattle.board.specs.Length.{width, upper, lower, span, extra}
+use Rattle.board.specs.Length.{width, upper, lower}
 use Rattle.board.specs.Placement.{Placement, Legal, bottom}
 use Rattle.layout.specs.Tree.{Point}
 use Rattle.layout.specs.Drawing.{viaColumn, wireColumn, at, samePoint, distinctFrom, nearRow, farRow, corners, pointsOn}
@@ -29,7 +28,7 @@ pub data AtPinOrTrack (board : Board) (t : ℕ) (p : Placement) (q : Point) : Ty
   on-track : viaColumn t ≤ q .column → q .column ≤ wireColumn t → p .top ≤ q .row → q .row ≤ bottom p → AtPinOrTrack board t p q
 
 -- what holds of all points holds where equal neighbours are left out
-distinct-each : (P : Point → Type 0) (p : Point) (qs : List Point) → Each P qs → Each P (distinctFrom p qs)
+pub distinct-each : (P : Point → Type 0) (p : Point) (qs : List Point) → Each P qs → Each P (distinctFrom p qs)
 unfolding distinctFrom
 distinct-each P p [] a = tt
 distinct-each P p (q ∷ qs) a =

@@ -1,6 +1,6 @@
 -- The lines that are left of a layout text behind a step are those that the definitions read. Assumes nothing.
 use Prim.Native.Nat.{ℕ, suc, _+_, _-_, _≤_, _<_, min}
-use mathlib.Core.Path.{_≡_, refl, sym, ap, _∙_}
+use mathlib.Core.Path.{_≡_, refl, ap, _∙_}
 use mathlib.Core.Bool.{true}
 use mathlib.Core.Option.{none}
 use mathlib.Core.List.{List, [], _∷_, _++_}
@@ -11,11 +11,11 @@ use lib.Seq.{take-all, split-at, drop-drop}
 use borrow.Author.Tests.{eq-eqb, ne-eqb, eqb-true}
 use Rattle.lists.specs.Lists.{allOf}
 use Rattle.text.specs.Bytes.{isEnd, pieces}
-use Rattle.lines.specs.Places.{until, scan, lineEnd, stepAt}
+use Rattle.lines.specs.Places.{until, stepAt}
 use Rattle.lines.specs.declared.Place.{Place}
 use Rattle.lines.specs.declared.Step.the-variants.{Line, End}
 use Rattle.lines.proofs.Scans.{until-le, until-before, until-at}
-use Rattle.lines.proofs.Steps.{step-line, step-end, end-of-lines}
+use Rattle.lines.proofs.Steps.{step-over, end-of-lines}
 use Rattle.layout.specs.ReadBack.{readLine}
 use Rattle.layout.proofs.RoundTrip.{plain}
 use Rattle.drc.specs.Standing.{isEnded, readEach, linesRead}
@@ -68,19 +68,9 @@ module _ (s : List ℕ) (p : Place) where
       ]
 
   pub lines-ahead : (from to : ℕ) (n : Place) → Line from to n ≡ stepAt s p → linesRead here ≡ lineRead s from to (n .at) ∷ linesRead (drop (n .at) s)
-  unfolding scan
   lines-ahead from to n e =
-      elim (decLt (p .at) (length s)) [
-        | yes h ↦
-            let m : Place = record { at = min (lineEnd s (p .at) + 1) (length s); passed = p .passed + 1 } in
-            let k : Line from to n ≡ Line (p .at) (lineEnd s (p .at)) m = e ∙ sym (step-line s p (lineEnd s (p .at)) (m .at) h refl refl) in
-            let g : n ≡ m = cc in
-            let i : from ≡ p .at = cc in
-            let o : to ≡ p .at + until isEnd here = cc in
-            let q : n .at ≡ min (to + 1) (length s) = ap (λ (x : Place). x .at) g ∙ ap (λ (x : ℕ). min (x + 1) (length s)) (sym o) in
-            rw i (line-ahead h to (n .at) o q)
-        | no h ↦ let k : Line from to n ≡ End = e ∙ sym (step-end s p (omega arith)) in let z : _≡_ {A = ℕ} 0 1 = cc in absurd (omega arith)
-      ]
+      let q = step-over s p from to n e in
+      rw (q .from-is) (line-ahead (q .more) to (n .at) (q .to-is) (q .next-is))
 
   -- the end of the text
   pub none-ahead : End ≡ stepAt s p → linesRead here ≡ []

@@ -3,11 +3,10 @@ use Prim.Native.Nat.{ℕ, _≤_, _<_}
 use mathlib.Core.Path.{_≡_, refl, sym, ap, subst, _∙_}
 use mathlib.Core.Bool.{true, false, _&&_, true≢false}
 use mathlib.Core.Option.{Option, none, some}
-use mathlib.Core.List.{List, List·Memᴰ}
+use mathlib.Core.List.{List}
 use native.Mathlib.Omega.{arith}
 use borrow.Author.Tests.{leb-true, eq-eqb}
 use Rattle.lists.proofs.Cases.{by-option, and-split}
-use Rattle.lists.proofs.Places.{mem-at}
 use Rattle.board.specs.declared.Board.{Board}
 use Rattle.board.specs.declared.Net.{Net}
 use Rattle.board.specs.declared.Row.{Row}
@@ -15,22 +14,21 @@ use Rattle.board.specs.declared.Shape.{Shape}
 use Rattle.board.specs.Job.{Job}
 use Rattle.board.specs.Length.{worth}
 use Rattle.board.specs.Placement.{Placement, placementAt, bottom}
-use Rattle.board.specs.Stored.{noNet}
 use Rattle.board.specs.Accepted.{AcceptedJob}
 use Rattle.board.specs.Tests.{isFromOne, isOverUpper, isUnderLower, isToLast}
 use Rattle.layout.specs.declared.Point.{Point}
 use Rattle.layout.specs.Tree.{Wire}
-use Rattle.layout.specs.Drawing.{wireColumn, pointsOn}
-use Rattle.layout.specs.Drawn.{firstIn, placementFrom, placementOf, netNumbered}
+use Rattle.layout.specs.Drawing.{pointsOn}
+use Rattle.layout.specs.Drawn.{placementOf, netNumbered}
 use Rattle.layout.proofs.RoundTrip.{only-some}
 use Rattle.sound.specs.Wires.{worthBy, worthOf}
-use Rattle.sound.proofs.Nets.{net-some, net-of, worth-of}
+use Rattle.sound.proofs.Nets.{net-some, net-of}
 use Rattle.drc.proofs.Drawings.{placement-net}
 use Rattle.drc.specs.Covers.{samePoints, isOnBoard, drawnOf, drawnFrom, drawnBy}
 use Rattle.drawnwires.specs.declared.DrawnPlace.the-variants.{Nothing, At}
 use Rattle.drawnwires.specs.DrawnPlaces.{placeOf}
 use Rattle.judging.specs.declared.NetFound.{NetFound}
-use Rattle.judging.proofs.Indexes.{index-number, index-none}
+use Rattle.judging.proofs.Indexes.{index-number, index-none, found-listed, found-worth}
 use Rattle.layoutsteps.specs.Found.{IsFound, FoundFor}
 
 -- ---- the placement that is answered
@@ -104,15 +102,12 @@ module _ (job : Job) (a : AcceptedJob job) (w : Wire) (found : NetFound) (is : F
     pub found-number : found .net .number ≡ w .number
     found-number = ap (λ (n : Net). n .number) (sym (is .net-is d .net-is)) ∙ index-number job (w .number) (found .index) (is .index-is) d .1
 
-    found-mem : List·Memᴰ (found .net) (job .nets)
-    found-mem = subst (λ q. List·Memᴰ q (job .nets)) (is .net-is d .net-is) (mem-at (job .nets) (found .index) noNet (is .net-is d .index-range))
-
     pub known-worth : worthOf job (w .number) ≡ worth (job .board) (found .net)
-    known-worth = ap (worthOf job) (sym found-number) ∙ worth-of job (a .numbers-rise) (found .net) found-mem
+    known-worth = found-worth job found (is .net-is d) a (w .number) found-number
 
     pub known-drawn : (t : ℕ) → drawnBy job t w ≡ drawnOf (job .board) t (w .points) (found .net)
     unfolding drawnBy drawnFrom
-    known-drawn t = rw (ap (netNumbered job) (sym found-number) ∙ net-of job (a .numbers-rise) (found .net) found-mem)
+    known-drawn t = rw (ap (netNumbered job) (sym found-number) ∙ net-of job (a .numbers-rise) (found .net) (found-listed job found (is .net-is d)))
 
 pub below-512 : (i : ℕ) → i ≤ 512 → (i ≡ 512 → ⊥) → i < 512
 below-512 i h d = omega arith

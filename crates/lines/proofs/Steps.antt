@@ -1,7 +1,7 @@
 -- The laws of a step over a line: from the start of a text, steps go through its lines, and the place only moves on. Assumes nothing.
 use mathlib.Core.Path.{_≡_, refl, sym, ap, _∙_}
 use mathlib.Core.List.{List, [], _∷_}
-use Prim.Native.Nat.{ℕ, suc, _+_, _-_, _≤_, _<_, min}
+use Prim.Native.Nat.{ℕ, suc, _+_, _≤_, _<_, min}
 use native.Mathlib.Omega.{arith}
 use native.Mathlib.Decide.{decLe, decLt}
 use native.Mathlib.Nat.{add-sub-cancel-left}
@@ -55,32 +55,50 @@ step-lines s p =
       | no h ↦ ap lines (drop-of-length-le s {i = p .at} (omega arith)) ∙ ap (stepLines s) (step-end s p (omega arith))
     ]
 
--- `Stepped` holds of every step over a line
-pub stepped : (s : List ℕ) (p : Place) (from to : ℕ) (n : Place) → Line from to n ≡ stepAt s p → Stepped s p from to n
-unfolding stepLines scan
-stepped s p from to n e =
+-- a step over a line by its numbers: the line begins at the place and ends before the first byte 10 or the end of the text
+pub record StepOver (s : List ℕ) (p : Place) (from to : ℕ) (n : Place) : Type 0 where
+  pub more : p .at < length s
+  pub from-is : from ≡ p .at
+  pub to-is : to ≡ p .at + until isEnd (drop (p .at) s)
+  pub next-is : n .at ≡ min (to + 1) (length s)
+  pub count-is : n .passed ≡ p .passed + 1
+
+pub step-over : (s : List ℕ) (p : Place) (from to : ℕ) (n : Place) → Line from to n ≡ stepAt s p → StepOver s p from to n
+unfolding scan
+step-over s p from to n e =
     elim (decLt (p .at) (length s)) [
       | yes h ↦
           let m : Place = record { at = min (lineEnd s (p .at) + 1) (length s); passed = p .passed + 1 } in
           let k : Line from to n ≡ Line (p .at) (lineEnd s (p .at)) m = e ∙ sym (step-line s p (lineEnd s (p .at)) (m .at) h refl refl) in
           let g : n ≡ m = cc in
-          let a : n .at ≡ min (p .at + until isEnd (drop (p .at) s) + 1) (length s) = ap (λ (q : Place). q .at) g in
-          let i : from ≡ p .at = cc in
-          let o : to ≡ p .at + until isEnd (drop (p .at) s) = cc in
+          let o : to ≡ lineEnd s (p .at) = cc in
           record {
-            starts = i;
-            ordered = omega arith;
-            inside = omega (arith, until-le isEnd (drop (p .at) s), length-drop (p .at) s);
-            ahead = omega arith;
-            within = omega arith;
-            counted = ap (λ (q : Place). q .passed) g;
-            line = step-lines s p ∙ ap (stepLines s) (sym e);
+            more = h;
+            from-is = cc;
+            to-is = o;
+            next-is = ap (λ (q : Place). q .at) g ∙ ap (λ (x : ℕ). min (x + 1) (length s)) (sym o);
+            count-is = ap (λ (q : Place). q .passed) g;
           }
       | no h ↦
           let k : Line from to n ≡ End = e ∙ sym (step-end s p (omega arith)) in
           let z : _≡_ {A = ℕ} 0 1 = cc in
           absurd (omega arith)
     ]
+
+-- `Stepped` holds of every step over a line
+pub stepped : (s : List ℕ) (p : Place) (from to : ℕ) (n : Place) → Line from to n ≡ stepAt s p → Stepped s p from to n
+unfolding stepLines
+stepped s p from to n e =
+    let q = step-over s p from to n e in
+    record {
+      starts = q .from-is;
+      ordered = omega arith;
+      inside = omega (arith, until-le isEnd (drop (p .at) s), length-drop (p .at) s);
+      ahead = omega arith;
+      within = omega arith;
+      counted = q .count-is;
+      line = step-lines s p ∙ ap (stepLines s) (sym e);
+    }
 
 -- and a step that finds none: no line is left
 pub end-of-lines : (s : List ℕ) (p : Place) → End ≡ stepAt s p → (lines (drop (p .at) s) ≡ []) × (length s ≤ p .at)

@@ -1,6 +1,6 @@
 -- The words of a line, where each bracket is a word of its own. Document 01, "Text of a job": spaces may stand around brackets and
 -- at both ends of a line; words and numbers have one or more between them.
-use mathlib.Core.Bool.{Bool, cond}
+use mathlib.Core.Bool.{cond}
 use mathlib.Core.List.{List, [], _∷_}
 use Prim.Native.Nat.{ℕ, _+_, _-_}
 use lib.ListN.{length, getD, take, drop}

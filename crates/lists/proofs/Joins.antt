@@ -1,8 +1,8 @@
 -- Statements and tests over the elements of lists joined or mapped. Assumes nothing.
-use mathlib.Core.Path.{_≡_, refl}
-use mathlib.Core.Bool.{Bool, true, false, _&&_, and-assoc, true≢false}
+use mathlib.Core.Path.{_≡_, refl, sym, ap, _∙_}
+use mathlib.Core.Bool.{Bool, true, false, _&&_, _||_, and-assoc, or-assoc, or-comm, true≢false}
 use mathlib.Core.List.{List, [], _∷_, _++_, map, List·Memᴰ, List·Memᴰ·head, List·Memᴰ·tail}
-use Rattle.lists.specs.Lists.{Each, EachPair, allOf}
+use Rattle.lists.specs.Lists.{Each, EachPair, anyOf, allOf}
 use Rattle.lists.proofs.Cases.{by-test}
 use Rattle.lists.proofs.Laws.{Each-map, Each-both}
 
@@ -27,14 +27,6 @@ module _ {A : Type 0} where
   pub EachPair-join : (R : A → A → Type 0) (xs ys : List A) → EachPair R xs → EachPair R ys → Each (λ x. Each (R x) ys) xs → EachPair R (xs ++ ys)
   EachPair-join R [] ys a b c = b
   EachPair-join R (x ∷ xs) ys a b c = (Each-join (R x) xs ys (a .0) (c .0), EachPair-join R xs ys (a .1) b (c .1))
-
-  pub EachPair-left : (R : A → A → Type 0) (xs ys : List A) → EachPair R (xs ++ ys) → EachPair R xs
-  EachPair-left R [] ys a = tt
-  EachPair-left R (x ∷ xs) ys a = (Each-left (R x) xs ys (a .0), EachPair-left R xs ys (a .1))
-
-  pub EachPair-right : (R : A → A → Type 0) (xs ys : List A) → EachPair R (xs ++ ys) → EachPair R ys
-  EachPair-right R [] ys a = a
-  EachPair-right R (x ∷ xs) ys a = EachPair-right R xs ys (a .1)
 
   -- an element of the first part and one of the second
   pub EachPair-across : (R : A → A → Type 0) (xs ys : List A) → EachPair R (xs ++ ys) → Each (λ x. Each (R x) ys) xs
@@ -67,6 +59,13 @@ pub allOf-append : {A : Type 0} (f : A → Bool) (s t : List A) → allOf f (s +
 unfolding allOf
 allOf-append f [] t = refl
 allOf-append f (b ∷ s) t = rw (allOf-append f s t, and-assoc)
+
+-- a test of some element, of a list and one element more
+pub anyOf-more : {A : Type 0} (f : A → Bool) (xs : List A) (x : A) → anyOf f (xs ++ (x ∷ [])) ≡ (f x || anyOf f xs)
+unfolding anyOf
+anyOf-more f [] x = refl
+anyOf-more f (y ∷ ys) x =
+    rw (anyOf-more f ys x) (sym (or-assoc (f y) (f x) (anyOf f ys)) ∙ ap (λ t. t || anyOf f ys) (or-comm (f y) (f x)) ∙ or-assoc (f x) (f y) (anyOf f ys))
 
 module _ {A : Type 0} where
   -- where a test of every element fails, it fails for one

@@ -11,7 +11,7 @@ use Rattle.board.specs.declared.Net.{Net}
 use Rattle.board.specs.Length.{needed, worth}
 use Rattle.board.specs.Job.{Job}
 use Rattle.board.proofs.ShortestShape.{needed-pos}
-use Rattle.packing.specs.Best.{bestLast, best}
+use Rattle.packing.specs.Best.{bestLast}
 use Rattle.packing.specs.Walk.{choice}
 use Rattle.packing.proofs.WalkIsRival.{choice-none, choice-some, chosen-within, bestLast-zero}
 

@@ -2,7 +2,6 @@
 pub mod ChoiceRows
 pub mod Marks
 pub mod Stands
-pub mod FirstTracks
 pub mod Recorded
 pub mod Walking
 pub mod RowByRow

@@ -21,7 +21,7 @@ use Rattle.planner.specs.declared.Progress.{Progress}
 use Rattle.planner.specs.JobPlans.{standFrom, netPlanOf, noPlan, storedPlan, jobPlanOf}
 use Rattle.planner.specs.Progressed.{placedOn, progressOf, noProgress, firstTracks, onFirst, progressTo, OnTurn}
 use Rattle.planner.proofs.Stands.{on-stand, loose-track}
-use Rattle.planner.proofs.FirstTracks.{first-all}
+use Rattle.planning.proofs.FirstTracks.{first-all}
 
 -- ---- lists
 -- one value for each net, and the same behind them

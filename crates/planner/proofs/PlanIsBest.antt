@@ -23,7 +23,7 @@ use Rattle.planner.specs.JobPlans.{netPlanOf, noPlan, storedPlan, jobPla
 use Rattle.planner.specs.Progressed.{onFirst}
 use Rattle.planner.specs.Chosen.{looseFrom, looseNets, BestPlan}
 use Rattle.planner.proofs.Stands.{on-stand}
-use Rattle.planner.proofs.FirstTracks.{plan-at}
+use Rattle.planning.proofs.FirstTracks.{plan-at}
 use Rattle.planner.proofs.TracksOfPlan.{tracks-of-plan}
 
 -- the nets that stand on no track of a plan are its loose nets

@@ -30,7 +30,7 @@ use Rattle.planner.specs.Progressed.{trackOf, progressOf, firstTracks, o
 use Rattle.planner.proofs.ChoiceRows.{IndexOf, index-of}
 use Rattle.planner.proofs.Marks.{marked, withWires, marked-all, with-map}
 use Rattle.planner.proofs.Stands.{wired, wire-found, stand-kept, stand-new}
-use Rattle.planner.proofs.FirstTracks.{first-length, first-next}
+use Rattle.planning.proofs.FirstTracks.{first-length, first-next}
 
 -- the sum of one more track
 sums-put : (trs : List FilledTrack) (tr : FilledTrack) (room : ℕ) →

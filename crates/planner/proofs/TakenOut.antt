@@ -1,7 +1,6 @@
 -- What is promised of a plan by value, taken out clause by clause: none of them asks less than its words say. Assumes nothing.
 use Prim.Native.Nat.{ℕ, _+_, _<_}
 use mathlib.Core.Path.{_≡_}
-use mathlib.Core.List.{List}
 use lib.ListN.{getD}
 use Rattle.lists.specs.Lists.{Each}
 use Rattle.board.specs.Length.{shortest}

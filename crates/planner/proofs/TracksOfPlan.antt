@@ -30,7 +30,7 @@ use Rattle.planner.specs.Progressed.{trackOf, onFirst}
 use Rattle.planner.specs.Chosen.{standsAt, rowOf, lastRows, tracksFrom, tracksOf}
 use Rattle.planner.proofs.Marks.{wire-here, wire-later}
 use Rattle.planner.proofs.Stands.{wired, WireFound, wire-found, stand-at, stand-other}
-use Rattle.planner.proofs.FirstTracks.{plan-length, plan-at}
+use Rattle.planning.proofs.FirstTracks.{plan-length, plan-at}
 use Rattle.planner.proofs.Recorded.{wires-rival, wires-differ, tops-differ, wires-fresh}
 use Rattle.planner.proofs.RowByRow.{topAt, listOf, byRow, by-row}
 

@@ -1,8 +1,8 @@
 -- The balance: all sums of a plan plus what its loose nets are worth is what the nets of the job are worth. Assumes nothing.
 use Prim.Native.Nat.{ℕ, zero, suc, _+_, _<_}
-use mathlib.Core.Path.{_≡_, refl, sym, ap, _∙_}
+use mathlib.Core.Path.{_≡_, refl, sym, ap}
 use mathlib.Core.Logic.{⊎-elim}
-use mathlib.Core.Bool.{true, false, cond, or-true}
+use mathlib.Core.Bool.{true, false, or-true}
 use mathlib.Core.List.{List, [], _∷_, _++_, append-assoc, append-nil, List·Memᴰ, List·Memᴰ·tail, List·Memᴰ·cases-cons, List·Memᴰ·not-nil}
 use native.Mathlib.Omega.{arith}
 use lib.Dec.{eqb}
@@ -15,7 +15,7 @@ use Rattle.board.specs.Length.{Allowed, shortest, worth, upper}
 use Rattle.board.specs.Job.{Job}
 use Rattle.board.specs.Placement.{Placement, Legal}
 use Rattle.board.specs.Rival.{Apart, Rival, rivalSum, worthSum}
-use Rattle.board.specs.Unbeaten.{FilledTrack, numbers, numbersOn}
+use Rattle.board.specs.Unbeaten.{numbers, numbersOn}
 use Rattle.board.specs.Accepted.{AcceptedJob}
 use Rattle.board.proofs.ShortestShape.{span-add}
 use Rattle.board.proofs.SameNumber.{same-number}

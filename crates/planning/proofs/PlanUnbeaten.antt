@@ -1,14 +1,12 @@
 -- The plan of an accepted job is unbeaten: on every track no rival sequence has a larger sum, with the earlier tracks held. Assumes nothing.
-use Prim.Native.Nat.{ℕ, zero, suc, _+_, _≤_, _<_}
-use mathlib.Core.Path.{_≡_, refl, ap}
-use mathlib.Core.List.{List, [], _++_, append-assoc, append-nil, List·Memᴰ}
+use Prim.Native.Nat.{ℕ, suc, _+_, _≤_}
+use mathlib.Core.List.{List, List·Memᴰ}
 use native.Mathlib.Omega.{arith}
-use native.Mathlib.Nat.{add-zero}
-use lib.ListN.{length, getD, take}
+use lib.ListN.{take}
 use Rattle.board.specs.declared.Net.{Net}
 use Rattle.board.specs.Length.{Allowed, shortest}
 use Rattle.board.specs.Job.{Job}
-use Rattle.board.specs.Unbeaten.{emptyTrack, numbers, numbersOn, Optimal, Unbeaten}
+use Rattle.board.specs.Unbeaten.{emptyTrack, numbersOn, Optimal, Unbeaten}
 use Rattle.board.specs.Accepted.{AcceptedJob}
 use Rattle.board.proofs.Tops.{accepted-shortest}
 use Rattle.packing.specs.Best.{best}
@@ -16,7 +14,8 @@ use Rattle.packing.specs.Walk.{walkFrom, wiresOf}
 use Rattle.packing.specs.Step.{LargestSum, WalkStep}
 use Rattle.packing.proofs.UpperBound.{rival-le-best}
 use Rattle.packing.proofs.ByRow.{best-largest, walk-step}
-use Rattle.planning.specs.Plan.{filledTrack, planFrom, planOf}
+use Rattle.planning.specs.Plan.{filledTrack, planOf}
+use Rattle.planning.proofs.FirstTracks.{plan-length, plan-at}
 
 -- every net of an accepted job is allowed in its shortest shape
 pub all-allowed : (job : Job) → AcceptedJob job → (n : Net) → List·Memᴰ n (job .nets) → Allowed (job .board) n (shortest (job .board) n)
@@ -32,28 +31,11 @@ module _ (job : Job) (allowed : (n : Net) → List·Memᴰ n (job .nets) → All
         sum-is = best-largest job earlier t allowed 1 (omega arith) .sum-is;
       }
 
-  plan-length : (k t : ℕ) (earlier : List ℕ) → length (planFrom job k t earlier) ≡ k
-  unfolding planFrom
-  plan-length zero t earlier = refl
-  plan-length (suc k) t earlier = ap suc (plan-length k (suc t) _)
-
-  plan-each : (k t : ℕ) (earlier : List ℕ) (i : ℕ) → i < k →
-      Optimal job (earlier ++ numbersOn (take i (planFrom job k t earlier))) (t + i) (getD (planFrom job k t earlier) i emptyTrack)
-  unfolding planFrom numbersOn filledTrack
-  plan-each zero t earlier i h = absurd (omega arith)
-  plan-each (suc k) t earlier zero h = rw (append-nil, add-zero t) (track-optimal earlier t)
-  plan-each (suc k) t earlier (suc i) h =
-      let ws = wiresOf job earlier t in
-      let e : suc t + i ≡ t + suc i = omega arith in
-      rw (append-assoc earlier (numbers ws), e) at (plan-each k (suc t) (earlier ++ numbers ws) i (omega arith))
-
 pub plan-unbeaten : (job : Job) → AcceptedJob job → Unbeaten job (planOf job)
-unfolding planOf
 plan-unbeaten job a =
-    let allowed = all-allowed job a in
     record {
-      count = plan-length job allowed (job .board .tracks) 1 [];
-      each = λ i h. let e : 1 + i ≡ suc i = omega arith in rw e at (plan-each job allowed (job .board .tracks) 1 [] i h);
+      count = plan-length job;
+      each = λ i h. rw (plan-at job i emptyTrack h) (track-optimal job (all-allowed job a) (numbersOn (take i (planOf job))) (suc i));
     }
 
 -- ---- of an accepted job: best(j) for every row, and the walk's step at every row

@@ -11,7 +11,6 @@ use Rattle.board.specs.Job.{Job}
 use Rattle.text.specs.Written.{Written, over}
 use Rattle.text.proofs.Writing.{kept}
 use Rattle.jobfile.specs.Read.{Read, accepted, refused, readJob}
-use Rattle.jobfile.specs.Answers.{numberOf, lineOf}
 use Rattle.jobfile.proofs.Accepts.{read-accepted}
 use Rattle.jobfile.proofs.Refusals.{read-refused, fault-from}
 use Rattle.reader.specs.Reports.{refusedText}

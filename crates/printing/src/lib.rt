@@ -1,5 +1,4 @@
 // What the program `route` prints.
-ghost use mathlib.Core.Path.{_≡_};
 ghost use lib.ListN.{replicate};
 ghost use Rattle.text.specs.Written.{Written};
 ghost use Rattle.jobfile.specs.Read.{readJob};

@@ -21,7 +21,7 @@ use Rattle.jobfile.specs.declared.Form.{Form}
 use Rattle.jobfile.specs.declared.Outcome.{Outcome}
 use Rattle.jobfile.specs.declared.Outcome.the-variants.{Accepted, TooLong, NotOfForm}
 use Rattle.jobfile.specs.Forms.{readForm}
-use Rattle.jobfile.specs.Read.{State, start, Next, go, stop, boardOf, step, Read, refused, ended, follow, readFrom, readJob}
+use Rattle.jobfile.specs.Read.{State, start, Next, go, stop, step, Read, refused, ended, follow, readFrom, readJob}
 use Rattle.jobfile.specs.Answers.{numberOf, noJob, answerOf}
 use Rattle.jobrules.specs.Rules.{outcomeOf, RowsInRange}
 use Rattle.jobrules.proofs.Outcomes.{Passes}

@@ -1,5 +1,5 @@
 -- The slots of a job by value: how many there are, which nets and blocks they hold, and how one more of them is stored. Assumes nothing.
-use Prim.Native.Nat.{ℕ, _+_, _-_, _≤_, _<_}
+use Prim.Native.Nat.{_+_, _-_, _<_}
 use mathlib.Core.Path.{_≡_, sym, ap, _∙_}
 use native.Mathlib.Omega.{arith}
 use lib.ListN.{length, take, replicate, set, length-append, length-replicate}

@@ -1,10 +1,9 @@
 -- What is held behind a line that is not refused: the stage and the job by value of the state that the line leads to. Assumes nothing.
 use Prim.Native.Nat.{ℕ, _+_, _<_}
 use mathlib.Core.Path.{_≡_, refl, sym, ap, _∙_}
-use mathlib.Core.Bool.{true}
-use mathlib.Core.List.{List, [], _∷_, _++_}
+use mathlib.Core.List.{[], _∷_, _++_}
 use native.Mathlib.Omega.{arith}
-use lib.ListN.{length, set}
+use lib.ListN.{set}
 use borrow.Author.Tests.{eqb-true}
 use Rattle.board.specs.declared.Net.{Net}
 use Rattle.board.specs.declared.Block.{Block}
@@ -14,7 +13,7 @@ use Rattle.board.specs.Stored.{jobOf, storedOf}
 use Rattle.jobfile.specs.declared.Form.{Form}
 use Rattle.jobfile.specs.declared.Form.the-variants as Is
 use Rattle.jobfile.specs.declared.Outcome.the-variants.{OutOfRange}
-use Rattle.jobfile.specs.Read.{State, opened, sized, filled, closed, Next, go, stop, unless, within, atStart, atOpened, atSized, atFilled, boardOf, emptyBoard, withNet, withBlock, addNet, addBlock, step}
+use Rattle.jobfile.specs.Read.{State, opened, sized, filled, closed, Next, go, unless, within, atStart, atOpened, atSized, atFilled, boardOf, emptyBoard, withNet, withBlock, addNet, addBlock, step}
 use Rattle.jobfile.specs.Answers.{numberOf}
 use Rattle.board.proofs.StoredJobs.{job-back}
 use Rattle.jobrules.specs.Rules.{outcomeOf, RowsInRange}

@@ -1,7 +1,7 @@
 -- Demand 2, "passes ours", of the two operations: the check passes the bytes that route writes into a buffer, for every job file and every
 -- buffer. Assumes nothing.
 use Prim.Native.Nat.{ℕ}
-use mathlib.Core.Path.{_≡_, refl, sym, ap, _∙_}
+use mathlib.Core.Path.{_≡_, refl}
 use mathlib.Core.List.{List}
 use lib.Dec.{leb}
 use lib.ListN.{length, take, drop}
@@ -9,12 +9,11 @@ use lib.Seq.{take-append-seam}
 use borrow.Author.Tests.{le-leb}
 use Rattle.lists.proofs.Cases.{by-test}
 use Rattle.board.specs.Job.{Job}
-use Rattle.text.specs.Written.{over}
 use Rattle.jobfile.specs.Read.{Read, accepted, refused, readJob}
 use Rattle.jobfile.proofs.Accepts.{read-accepted}
 use Rattle.routing.specs.Route.{routeText}
 use Rattle.routing.proofs.RouteUnbeaten.{route-length}
-use Rattle.router.specs.declared.RouteAnswer.the-variants.{Refused, TooSmall, Routed}
+use Rattle.router.specs.declared.RouteAnswer.the-variants.{TooSmall, Routed}
 use Rattle.router.specs.Answers.{routeAnswer, bufferAfter}
 use Rattle.checker.specs.declared.CheckAnswer.the-variants.{Passes}
 use Rattle.checker.specs.Answers.{verdictAnswer, checkAnswer}

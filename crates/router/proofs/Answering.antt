@@ -1,16 +1,15 @@
 -- What route promises, for each way that it ends: refused as read does, too small a buffer, the layout written. Assumes nothing.
 use Prim.Native.Nat.{ℕ, _≤_, _<_}
-use mathlib.Core.Path.{_≡_, refl, sym, ap, _∙_}
+use mathlib.Core.Path.{_≡_, refl, ap, _∙_}
 use mathlib.Core.List.{List, [], _∷_, _++_}
 use native.Mathlib.Omega.{arith}
-use lib.Dec.{leb}
 use lib.ListN.{length, take, drop}
 use borrow.Author.Tests.{le-leb, lt-leb}
 use Rattle.board.specs.declared.StoredJob.{StoredJob}
 use Rattle.board.specs.Job.{Job}
 use Rattle.board.specs.Accepted.{AcceptedJob}
 use Rattle.board.specs.Stored.{jobOf, AcceptedStored}
-use Rattle.text.specs.Written.{Written, over}
+use Rattle.text.specs.Written.{Written}
 use Rattle.jobfile.specs.declared.Outcome.{Outcome}
 use Rattle.jobfile.specs.Read.{accepted, refused, readJob}
 use Rattle.jobfile.specs.Faults.{Fault}

@@ -1,7 +1,7 @@
 -- The text that route writes for document 01's worked board, byte for byte. Assumes nothing.
 use Prim.Native.Nat.{ℕ}
-use mathlib.Core.Path.{_≡_, refl, ap, _∙_}
-use mathlib.Core.List.{List, [], _∷_}
+use mathlib.Core.Path.{_≡_, refl}
+use mathlib.Core.List.{List}
 use Rattle.lists.specs.Lists.{anyOf, allOf, firstOf}
 use Rattle.board.specs.Length.{width, upper, lower, span, plainLength, shortest, needed, worth}
 use Rattle.board.specs.Job.{Job, closesRow, blocked}

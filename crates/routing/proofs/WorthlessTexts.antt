@@ -1,10 +1,10 @@
 -- What demands 2 and 3 shut out, on document 01's worked board: for each clause of `OptimalTrack`, `UnbeatenText`, `ShortestWire` and `ShortestText` that
 -- decides, a layout that fails it; document 01's "Worthless versions" among them. Assumes nothing.
-use Prim.Native.Nat.{ℕ, zero, suc, _+_, _≤_, _<_}
+use Prim.Native.Nat.{ℕ, suc, _<_}
 use mathlib.Core.Path.{_≡_, refl, sym, ap, _∙_}
 use mathlib.Core.Bool.{true}
 use mathlib.Core.Option.{none, some, Option·some-injective, Option·none-ne-some}
-use mathlib.Core.List.{List, [], _∷_, map, List·Memᴰ, List·Memᴰ·head, List·Memᴰ·tail}
+use mathlib.Core.List.{List, [], _∷_, map, List·Memᴰ}
 use native.Mathlib.Omega.{arith}
 use lib.Dec.{leb}
 use lib.ListN.{length, getD, take}
@@ -12,7 +12,7 @@ use borrow.Author.Tests.{le-leb}
 use Rattle.lists.specs.Lists.{Each, firstOf}
 use Rattle.lists.proofs.Laws.{Each-map}
 use Rattle.board.specs.declared.Net.{Net}
-use Rattle.board.specs.Length.{width, upper, lower, span, plainLength, lengthOf, shortest, needed, worth}
+use Rattle.board.specs.Length.{width, upper, lower, span, plainLength, shortest, needed, worth}
 use Rattle.board.specs.Job.{Job}
 use Rattle.board.specs.Placement.{Placement, placementAt, shortestAt}
 use Rattle.board.specs.Accepted.{AcceptedJob}

@@ -1,8 +1,8 @@
 -- Every number of a sound layout has at most six digits, and its text has at most 64,000 bytes. Assumes nothing.
-use Prim.Native.Nat.{ℕ, suc, _+_, _*_, _-_, _≤_, _<_}
+use Prim.Native.Nat.{ℕ, suc, _+_, _*_, _≤_, _<_}
 use mathlib.Core.Path.{_≡_, refl, ap}
 use mathlib.Core.Bool.{true}
-use mathlib.Core.List.{List, [], _∷_, _++_, map, List·Memᴰ, Memᴰ·of-map, Memᴰ·append-right}
+use mathlib.Core.List.{List, [], _∷_, _++_, map, Memᴰ·of-map, Memᴰ·append-right}
 use native.Mathlib.Omega.{arith}
 use lib.Dec.{ltb}
 use lib.ListN.{length, length-map, length-append}
@@ -10,16 +10,15 @@ use borrow.Author.Tests.{lt-ltb}
 use Rattle.lists.specs.Lists.{Each}
 use Rattle.lists.proofs.Cases.{by-test, and-both}
 use Rattle.lists.proofs.Laws.{Each-map}
+use Rattle.lists.proofs.Joins.{Each-each, Each-mapped}
 use Rattle.board.specs.declared.Board.{Board}
-use Rattle.board.specs.declared.Net.{Net}
 use Rattle.board.specs.declared.Shape.{Shape}
 use Rattle.board.specs.declared.Shape.the-variants.{Plain, Stretched}
 use Rattle.board.specs.Length.{width}
 use Rattle.board.specs.Job.{Job}
 use Rattle.board.specs.Placement.{Placement, bottom}
-use Rattle.board.specs.Rival.{worthSum}
 use Rattle.board.specs.Accepted.{BoardInRange, NetInRange, AcceptedJob}
-use Rattle.board.proofs.ShortestShape.{worth-needed}
+use Rattle.board.proofs.JobWorth.{job-worth}
 use Rattle.text.specs.Digits.{digits}
 use Rattle.text.proofs.Numbers.{length-digits}
 use Rattle.layout.specs.declared.Point.{Point}
@@ -27,9 +26,9 @@ use Rattle.layout.specs.Tree.{Wire, DrawnTrack, Layout, Line, track, wire, loos
 use Rattle.layout.specs.LayoutText.{pointsThen, lineText, linesText, wiresThen, tracksThen, looseThen, layoutLines, layoutText}
 use Rattle.layout.specs.ReadBack.{smallPoints, smallLine, smallLines, isSmall}
 use Rattle.layout.specs.Drawing.{viaColumn, wireColumn, at, samePoint, distinctFrom, nearRow, farRow, corners, pointsOn, wireOf}
+use Rattle.layout.proofs.OnGrid.{distinct-each}
 use Rattle.sound.specs.Wires.{wireNumbers, trackNumbers, lineNumbers, printedSum}
 use Rattle.sound.specs.Sound.{SoundTracks, Sound}
-use Rattle.lists.proofs.Joins.{Each-each, Each-mapped}
 use Rattle.sound.proofs.Balance.{balance, lines-count}
 
 -- ---- bounds of a layout
@@ -161,12 +160,6 @@ bounded-length l b =
 
 -- ---- sound layouts are bounded
 
-all-distinct : (P : Point → Type 0) (p : Point) (ps : List Point) → Each P ps → Each P (distinctFrom p ps)
-unfolding distinctFrom
-all-distinct P p [] b = tt
-all-distinct P p (q ∷ qs) b =
-    by-test (samePoint p q) (λ e. rw e (all-distinct P q qs (b .1))) (λ e. rw e (b .0, all-distinct P q qs (b .1)))
-
 distinct-length : (p : Point) (ps : List Point) → length (distinctFrom p ps) ≤ length ps
 unfolding distinctFrom
 distinct-length p [] = omega arith
@@ -208,7 +201,7 @@ module _ (board : Board) (b : BoardInRange board) where
       record {
         number = omega arith;
         count = omega (arith, distinct-length pin (corners board t p (p .shape)));
-        points = (omega arith, all-distinct PointBound pin (corners board t p (p .shape)) (c .0));
+        points = (omega arith, distinct-each PointBound pin (corners board t p (p .shape)) (c .0));
       }
 
 module _ (job : Job) (a : AcceptedJob job) where
@@ -225,17 +218,12 @@ module _ (job : Job) (a : AcceptedJob job) where
         track-bounds (earlier ++ wireNumbers (tr .wires)) (suc t) trs (s .1) (omega arith) (omega arith),
       )
 
-  worth-bound : (ns : List Net) → Each (λ n. List·Memᴰ n (job .nets)) ns → worthSum (job .board) ns ≤ 1024 * length ns
-  unfolding worthSum
-  worth-bound [] i = omega arith
-  worth-bound (n ∷ ns) i = omega (arith, worth-needed (job .board) n, a .nets-each n (i .0) .fits-board, a .board-range .rows-range, worth-bound ns (i .1))
-
   module _ (text : List ℕ) (s : Sound job text) where
     pub sound-bounded : Bounded (s .layout)
     unfolding lineNumbers
     sound-bounded =
         let k = a .nets-count in
-        let total = worth-bound (job .nets) (Each-each (job .nets) (λ n i. i)) in
+        let total = job-worth job a in
         record {
           tracks = track-bounds [] 1 (s .layout .tracks) (s .tracks) (omega (arith, s .count)) (omega (arith, balance job a text s));
           loose = Each-each (s .layout .loose) (λ j i.

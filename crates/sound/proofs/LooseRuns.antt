@@ -1,9 +1,9 @@
 -- Document 01, "A sound layout": the run of a loose net stays free for hand work. In a sound layout no wire has a pin in the row of a loose
 -- net's left pin, on either side. Assumes nothing.
-use Prim.Native.Nat.{ℕ, suc, _<_}
+use Prim.Native.Nat.{ℕ, suc}
 use mathlib.Core.Path.{_≡_, refl, sym, ap, _∙_}
 use mathlib.Core.List.{List, [], _∷_, _++_, map, append-assoc, List·Memᴰ, Memᴰ·append-left, Memᴰ·append-right, Memᴰ·map, Memᴰ·cast}
-use Rattle.lists.specs.Lists.{Each, EachPair}
+use Rattle.lists.specs.Lists.{Each}
 use Rattle.lists.proofs.Laws.{Each-at}
 use Rattle.lists.proofs.Joins.{Each-each, Each-mapped, EachPair-across}
 use Rattle.board.specs.declared.Net.{Net}

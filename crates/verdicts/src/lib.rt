@@ -1,5 +1,4 @@
 // What the program `check` prints.
-ghost use mathlib.Core.Path.{_≡_};
 ghost use Prim.Native.Nat.{_≤_};
 ghost use lib.ListN.{length, replicate};
 ghost use Rattle.jobfile.specs.Read.{readJob};

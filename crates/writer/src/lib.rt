@@ -1,5 +1,4 @@
 // The lines of a layout, each written into the rest of a lent buffer; a writer is told the place and returns the next one.
-ghost use mathlib.Core.Path.{_≡_};
 ghost use Prim.Native.Nat.{_+_, _≤_, _<_};
 ghost use lib.ListN.{length};
 ghost use Rattle.text.specs.Written.{Written, WrittenAt};

@@ -4,7 +4,7 @@ use lib.ListN.{length-append}
 use Rattle.text.specs.Digits.{digits}
 use Rattle.text.proofs.Writing.{kept, chain}
 use Rattle.reader.proofs.Reports.{head, refused-parts, refused-length}
-use Prim.Native.Nat.{_+_, _-_}
+use Prim.Native.Nat.{_+_}
 use native.Mathlib.Omega.{arith}
 use borrow.Author.Needs.{needs}
 use Rattle.reader.proofs.put_refusal.Statement.{statement}

@@ -1,14 +1,12 @@
 -- `router::route` meets its contract. Assumes nothing.
-use Prim.Native.Nat.{_≤_}
-use mathlib.Core.Path.{_≡_, ap, _∙_}
+use mathlib.Core.Path.{_≡_}
 use native.Mathlib.Omega.{arith}
-use lib.ListN.{length}
 use borrow.Author.Needs.{needs}
 use denote.Ref.{now}
 use Rattle.board.specs.Stored.{jobOf, AcceptedStored}
 use Rattle.jobfile.specs.Read.{accepted, readJob}
 use Rattle.jobfile.proofs.Returned.{given-stored, given-read, given-refused}
-use Rattle.router.proofs.Answering.{refused-promised, small-promised, routed-promised, plan-text, plan-can, plan-short, plan-written}
+use Rattle.router.proofs.Answering.{refused-promised, small-promised, routed-promised, plan-can, plan-short, plan-written}
 use Rattle.router.proofs.route.Statement.{statement}
 use Rattle.router.proofs.route.Tie as tie
 

@@ -1,7 +1,7 @@
 -- `toptable::lent_tops` meets its contract: a walk of its MIR, by hand. The array is copied to a memory slot, whose first `count` records are lent as a slice for a lifetime that is made here. `put_all_tops` is called, the lifetime ends, and the slot is back to be freed. The table goes on at its own lifetime.
 -- All that the proof knows of `put_all_tops` is that it meets its contract. Assumes nothing.
 use mathlib.Core.Path.{_≡_, refl, sym, subst}
-use Prim.Native.Nat.{ℕ, _*_, _≤_, _<_, _^_}
+use Prim.Native.Nat.{ℕ, _≤_, _<_, _^_}
 use native.Mathlib.Omega.{arith}
 use mathlib.Core.List.{List, [], _∷_, _++_}
 use lib.Dec.{T as Holds}
@@ -17,7 +17,7 @@ use base.Fml.{Lft, GName, Share, ftrue, fsep, fat, flft, flent}
 use prog.Memory.{Memory}
 use prog.Routine.{Routine}
 use prog.Wp.{Heap, Calls, Loops, WpFn, Tables}
-use ghost.Atoms.{Atoms, sem}
+use ghost.Atoms.{Atoms}
 use contract.Monad.{Fun, fact}
 use contract.Running.{givenOf, tables, tablesOf}
 use types.Kit.{Given, Item, ‵, raw, _⊛_, ⋆, some, later, _$_, _∵_, !, qed, by, move, keep, drop, use1, use2, use3, split, join, pick, rewrite, fsplit, fjoin, fpick, fpack, feqI, feqL, suffices, frame, await, done}
@@ -45,7 +45,7 @@ use denote.Struct.Laws as LL
 use denote.Triple.Statement.{Contract, Triple}
 use denote.Triple.Call.{calls-at}
 use denote.Triple.Clauses.{ensured, lasts}
-use denote.Triple.Entry.{Vals, onEntry}
+use denote.Triple.Entry.{onEntry}
 use denote.Triple.Spec.{Meets, tripleOf}
 use denote.Triple.Table.{entered, cited}
 use denote.Triple.Walked.{says, needs, Stays, stay-none, gave-slice, walkOf, Walks, ends-at, walked, goes-none, goes-gave-slice, walk-meets}

@@ -1,5 +1,5 @@
 -- `verdicts::put_broken` meets its contract: three parts, one behind another. Assumes nothing.
-use mathlib.Core.List.{_∷_, _++_}
+use mathlib.Core.List.{_∷_}
 use native.Mathlib.Omega.{arith}
 use lib.ListN.{length-append}
 use Rattle.text.specs.Digits.{digits}

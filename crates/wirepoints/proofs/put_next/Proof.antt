@@ -1,12 +1,9 @@
 -- `wirepoints::put_next` meets its contract: nothing is written where the points are equal. Assumes nothing.
 use Prim.Native.Nat.{_+_, _≤_}
-use mathlib.Core.Path.{_≡_, sym, _∙_}
-use mathlib.Core.Bool.{true, false}
-use native.Mathlib.Omega.{arith}
+use mathlib.Core.Path.{sym, _∙_}
 use lib.ListN.{length}
 use denote.Ref.{now}
-use Rattle.text.specs.Written.{WrittenAt}
-use Rattle.wirepoints.specs.Points.{pointText, nextText}
+use Rattle.wirepoints.specs.Points.{nextText}
 use Rattle.wirepoints.proofs.Parts.{next-same, next-other}
 use borrow.Author.Needs.{needs}
 use Rattle.wirepoints.proofs.put_next.Statement.{statement}

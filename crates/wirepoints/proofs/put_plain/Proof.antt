@@ -1,5 +1,4 @@
 -- `wirepoints::put_plain` meets its contract: the pin, and three points behind it. Assumes nothing.
-use mathlib.Core.List.{[], _∷_, _++_}
 use native.Mathlib.Omega.{arith}
 use Rattle.text.proofs.Writing.{lengths, kept-at, chain-at}
 use Rattle.wirepoints.proofs.Parts.{plain-parts}

@@ -1,5 +1,4 @@
 -- `wirepoints::put_point` meets its contract: four writes in a row. Assumes nothing.
-use mathlib.Core.List.{[], _∷_, _++_}
 use native.Mathlib.Omega.{arith}
 use Rattle.text.proofs.Writing.{lengths, kept-at, chain-at}
 use Rattle.wirepoints.proofs.Parts.{point-parts, point-length}

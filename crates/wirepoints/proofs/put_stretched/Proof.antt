@@ -1,5 +1,4 @@
 -- `wirepoints::put_stretched` meets its contract: the pin, three points behind it, and those behind them. Assumes nothing.
-use mathlib.Core.List.{[], _∷_, _++_}
 use native.Mathlib.Omega.{arith}
 use Rattle.text.proofs.Writing.{lengths, kept-at, chain-at}
 use Rattle.wirepoints.proofs.Parts.{stretched-parts}

@@ -1,5 +1,4 @@
 -- `wirepoints::put_tail` meets its contract: three points and one more. Assumes nothing.
-use mathlib.Core.List.{[], _∷_, _++_}
 use native.Mathlib.Omega.{arith}
 use Rattle.text.proofs.Writing.{lengths, kept-at, chain-at}
 use Rattle.wirepoints.proofs.Parts.{tail-parts}

@@ -1,5 +1,4 @@
 -- `wirepoints::same_point` meets its contract. Assumes nothing.
-use mathlib.Core.Path.{_≡_, sym}
 use borrow.Author.Tests.{ne-eqb, eq-eqb}
 use Rattle.layout.specs.Drawing.{samePoint}
 use Rattle.wirepoints.proofs.same_point.Statement.{statement}

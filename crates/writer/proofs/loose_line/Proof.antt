@@ -1,5 +1,4 @@
 -- `writer::loose_line` meets its contract: two writes in a row. Assumes nothing.
-use mathlib.Core.List.{[], _∷_, _++_}
 use native.Mathlib.Omega.{arith}
 use Rattle.text.proofs.Writing.{lengths, kept-at, chain-at}
 use Rattle.writer.proofs.Lines.{from-start, loose-parts}

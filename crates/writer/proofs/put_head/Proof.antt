@@ -1,5 +1,4 @@
 -- `writer::put_head` meets its contract: three writes in a row. Assumes nothing.
-use mathlib.Core.List.{[], _∷_, _++_}
 use native.Mathlib.Omega.{arith}
 use Rattle.text.proofs.Writing.{lengths, kept-at, chain-at}
 use Rattle.writer.proofs.Lines.{head-parts, head-length}

@@ -1,4 +1,5 @@
--- Plans of document 01's boards, computed: the worked board, the board of the long net, and one without nets. Assumes nothing.
+-- Plans computed: document 01's worked board, its board of the long net, one without nets, and one where the most rows are not the most nets.
+-- Assumes nothing.
 use Prim.Native.Nat.{ℕ}
 use mathlib.Core.Path.{_≡_, refl, ap, _∙_}
 use mathlib.Core.List.{List, [], _∷_}
@@ -59,3 +60,13 @@ pub empty-plan : planOf (record { board = record { rows = 21; tracks = 3 }; nets
     record { sum = 0; wires = [] } ∷ record { sum = 0; wires = [] } ∷ record { sum = 0; wires = [] } ∷ []
 unfolding planned
 empty-plan = refl
+
+-- net k from row l to row r, of any length
+abbrev netFrom : ℕ → ℕ → ℕ → Net
+netFrom k l r = record { number = k; left = record { 0 = l }; right = record { 0 = r }; min = 0; max = 4095 }
+
+-- the most rows, not the most nets: the one net over rows 1 to 6 is taken, and not the two over rows 2 to 3 and 4 to 5
+pub most-rows-plan : planOf (record { board = triedBoard 6; nets = netFrom 1 1 6 ∷ netFrom 2 2 3 ∷ netFrom 3 4 5 ∷ []; blocks = [] }) ≡
+    record { sum = 6; wires = placementAt (netFrom 1 1 6) Plain 1 ∷ [] } ∷ []
+unfolding planned
+most-rows-plan = refl

@@ -15,15 +15,15 @@ module _ (job : Job) where
   from-length : (k t : ℕ) (earlier : List ℕ) → length (planFrom job k t earlier) ≡ k
   unfolding planFrom
   from-length zero t earlier = refl
-  from-length (suc k) t earlier = ap suc (from-length k (suc t) _)
+  from-length (suc k) t earlier = ap suc (from-length k _ _)
 
   from-at : (k t : ℕ) (earlier : List ℕ) (i : ℕ) (d : FilledTrack) → i < k →
       getD (planFrom job k t earlier) i d ≡ filledTrack job (earlier ++ numbersOn (take i (planFrom job k t earlier))) (t + i)
-  unfolding planFrom numbersOn filledTrack
+  unfolding planFrom numbersOn
   from-at zero t earlier i d h = absurd (omega arith)
   from-at (suc k) t earlier zero d h = rw (append-nil, add-zero t)
   from-at (suc k) t earlier (suc i) d h =
-      let ws = wiresOf job earlier t in
+      let ws = filledTrack job earlier t .wires in
       let e : suc t + i ≡ t + suc i = omega arith in
       rw (append-assoc earlier (numbers ws), e) at (from-at k (suc t) (earlier ++ numbers ws) i d (omega arith))
 

@@ -26,7 +26,7 @@ module _ (job : Job) (allowed : (n : Net) → List·Memᴰ n (job .nets) → All
   unfolding filledTrack wiresOf best
   track-optimal earlier t =
       record {
-        most = rival-le-best job earlier t;
+        most = λ ps r. omega (arith, rival-le-best job earlier t ps r);
         rival = best-largest job earlier t allowed 1 (omega arith) .rival;
         sum-is = best-largest job earlier t allowed 1 (omega arith) .sum-is;
       }

@@ -14,7 +14,7 @@ filledTrack job earlier t = record { sum = best job earlier t 1; wires = wiresOf
 unfoldable pub planFrom : Job → ℕ → ℕ → List ℕ → List FilledTrack
 planFrom job zero t earlier = []
 planFrom job (suc k) t earlier =
-    filledTrack job earlier t ∷ planFrom job k (suc t) (earlier ++ numbers (wiresOf job earlier t))
+    let track = filledTrack job earlier t in track ∷ planFrom job k (suc t) (earlier ++ numbers (track .wires))
 
 -- the plan of the job: tracks 1 to K filled
 unfoldable pub planOf : Job → List FilledTrack

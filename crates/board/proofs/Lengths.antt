@@ -2,15 +2,16 @@
 -- Assumes nothing.
 use Prim.Native.Nat.{ℕ, _≤_}
 use mathlib.Core.Path.{_≡_, refl}
+use mathlib.Core.Logic.{_↔_}
 use native.Mathlib.Omega.{arith}
 use Rattle.board.specs.declared.Board.{Board}
 use Rattle.board.specs.declared.Net.{Net}
 use Rattle.board.specs.declared.Shape.{Shape}
 use Rattle.board.specs.declared.Shape.the-variants.{Stretched}
 use Rattle.board.specs.Length.{width, upper, lower, span, plainLength, lengthOf, Allowed, shortest, needed}
-use Rattle.board.specs.Placement.{covered, firstTop, lastTop, shortestAt}
+use Rattle.board.specs.Placement.{covered, firstTop, lastTop, placementAt, shortestAt, Legal}
 use Rattle.board.specs.TriedBoards.{triedBoard, triedNet, Tried}
-use Rattle.board.proofs.ShortestShape.{none-allowed, none-below-plain}
+use Rattle.board.proofs.ShortestShape.{shortest-least, none-allowed, none-below-plain}
 use Rattle.board.proofs.Tops.{legal-in-tops}
 
 tried : {board : Board} {net : Net} {l e n first last : ℕ} → shortest board net ≡ Stretched e →
@@ -68,3 +69,22 @@ max-8 = none-allowed (triedBoard 21) (triedNet 8 8) .0 (omega arith)
 pub max-6 : (least : ℕ) (s : Shape) → Allowed (triedBoard 21) (triedNet least 6) s → ⊥
 unfolding width upper lower span plainLength
 max-6 least = none-below-plain (triedBoard 21) (triedNet least 6) (omega arith)
+
+-- ---- what is tried of a net, taken out clause by clause: none of them asks less than its words say
+module _ {board : Board} {net : Net} {l e n first last : ℕ} (t : Tried board net l e n first last) where
+  -- l is an allowed length of the net, and no allowed length is smaller
+  pub tried-length : (net .min ≤ l) × (l ≤ net .max) × ((s : Shape) → Allowed board net s → l ≤ lengthOf board net s)
+  tried-length = (
+    omega (arith, t .length-is, t .allowed),
+    omega (arith, t .length-is, t .allowed),
+    λ s a. omega (arith, t .length-is, shortest-least board net s a),
+  )
+
+  -- with stretch e the net has length l and covers n rows
+  pub tried-stretch : (lengthOf board net (Stretched e) ≡ l) × (covered net (Stretched e) ≡ n)
+  unfolding needed covered
+  tried-stretch = (rw (t .shape) at (t .length-is), rw (t .shape) at (t .needed-is))
+
+  -- with stretch e the net can have its top at the rows `first` to `last`, and at no other
+  pub tried-tops : (top : ℕ) → Legal board (placementAt net (Stretched e) top) ↔ ((first ≤ top) × (top ≤ last))
+  tried-tops top = rw (t .shape) at (t .tops top)

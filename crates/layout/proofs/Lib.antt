@@ -4,3 +4,4 @@ pub mod WorkedText
 pub mod DrawnOnce
 pub mod DrawnLength
 pub mod OnGrid
+pub mod Neighbours

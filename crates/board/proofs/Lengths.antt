@@ -1,7 +1,7 @@
 -- Document 01, "Boards to try": the lengths, needed rows and tops of one net, from row 10 to row 14 on a board with one track.
 -- Assumes nothing.
 use Prim.Native.Nat.{ℕ, _≤_}
-use mathlib.Core.Path.{_≡_, refl}
+use mathlib.Core.Path.{_≡_, refl, sym, ap, _∙_}
 use mathlib.Core.Logic.{_↔_}
 use native.Mathlib.Omega.{arith}
 use Rattle.board.specs.declared.Board.{Board}
@@ -83,7 +83,7 @@ module _ {board : Board} {net : Net} {l e n first last : ℕ} (t : Tried board n
   -- with stretch e the net has length l and covers n rows
   pub tried-stretch : (lengthOf board net (Stretched e) ≡ l) × (covered net (Stretched e) ≡ n)
   unfolding needed covered
-  tried-stretch = (rw (t .shape) at (t .length-is), rw (t .shape) at (t .needed-is))
+  tried-stretch = (ap (lengthOf board net) (sym (t .shape)) ∙ t .length-is, ap (covered net) (sym (t .shape)) ∙ t .needed-is)
 
   -- with stretch e the net can have its top at the rows `first` to `last`, and at no other
   pub tried-tops : (top : ℕ) → Legal board (placementAt net (Stretched e) top) ↔ ((first ≤ top) × (top ≤ last))

@@ -1,5 +1,5 @@
 -- What the statement of a starred board says of whatever its text is read as. Assumes nothing.
-use Prim.Native.Nat.{ℕ}
+use Prim.Native.Nat.{ℕ, _+_}
 use mathlib.Core.Path.{_≡_, sym, ap, subst, _∙_}
 use mathlib.Core.Bool.{true, false, true≢false}
 use mathlib.Core.Logic.{⊎-elim}
@@ -7,7 +7,9 @@ use mathlib.Core.List.{List, [], _∷_, List·Memᴰ, List·Memᴰ·cases-cons, 
 use Rattle.board.specs.declared.Net.{Net}
 use Rattle.board.specs.Job.{Job}
 use Rattle.board.specs.TriedBoards.{Tried}
+use Rattle.jobfile.specs.declared.Outcome.{Outcome}
 use Rattle.jobfile.specs.Read.{accepted, refused, readJob}
+use Rattle.jobfile.specs.Answers.{numberOf, lineOf}
 use Rattle.routing.specs.Route.{routeText}
 use Rattle.starred.specs.Boards.{LaidOut, OneNet, RefusedWith}
 
@@ -37,3 +39,16 @@ module _ (text : List ℕ) (job : Job) (e : readJob text ≡ accepted job) where
       let q : refused (r .outcome) ≡ accepted job = sym (r .read) ∙ e in
       let z : true ≡ false = cc in
       true≢false z
+
+-- a text that is refused is refused with the stated number and line
+pub refused-as : (text : List ℕ) (o : Outcome) → readJob text ≡ refused o → (number line : ℕ) → RefusedWith text number line →
+    (numberOf o ≡ number) × (lineOf o ≡ line)
+refused-as text o e number line r =
+    let q : refused (r .outcome) ≡ refused o = sym (r .read) ∙ e in
+    let i : r .outcome ≡ o = cc in
+    (ap numberOf (sym i) ∙ r .number-is, ap lineOf (sym i) ∙ r .line-is)
+
+-- the stated tops, from the first to the last, are as many as stated
+pub tops-counted : (text : List ℕ) (length stretch needed tops first last : ℕ) → OneNet text length stretch needed tops first last →
+    first + tops ≡ last + 1
+tops-counted text length stretch needed tops first last o = o .so-many

@@ -17,7 +17,7 @@ ghost use Rattle.layout.specs.Tree.{Wire, opens, loose, closes};
 ghost use Rattle.sound.specs.Wires.{worthOf};
 ghost use Rattle.drc.specs.Pass.{Summary, PassState, addWire, passLine};
 ghost use Rattle.judging.specs.Judged.{KeepsSummary, KeepsState, KeepsStep, JudgedInRange, LineInRange};
-ghost use Rattle.judging.specs.Values.{isNumbered, isAllowed, readyAt, isNextAt, allLined, firstBreach, notBegun, brokenOff, closedOf, settledOf, isTrackTurn, isWireTurn, isEndTurn, NetIs, NetFits, MapIs};
+ghost use Rattle.judging.specs.Values.{isNumbered, isAllowed, readyAt, isNextAt, allLined, firstBreach, notBegun, brokenOff, closedOf, settledOf, isTrackTurn, isWireTurn, isEndTurn, NetIs, NetFits, MapOf};
 use board::Board;
 use board::Net;
 use board::Row;
@@ -342,7 +342,7 @@ pub fn add_drawn(
     requires { ⌜ LineInRange line ⌝ }
     requires { ⌜ JudgedInRange (line - 1) m ⌝ }
     requires { ⌜ NetFits board found (top .0) shape ⌝ }
-    ensures { λ r. ⌜ ((job : Job) (s : Summary) (w : Wire) → AcceptedJob job → job .board ≡ board → NetIs job found → found .net .number ≡ w .number → MapIs job (m .track) (now (words .entry)) → 1 ≤ m .track → KeepsSummary job s m (now (stands .entry)) → KeepsSummary job (addWire job line w (some (placementAt (found .net) shape (top .0))) s) r (now (stands .exit))) ⌝ }
+    ensures { λ r. ⌜ ((job : Job) (s : Summary) (w : Wire) → AcceptedJob job → job .board ≡ board → NetIs job found → found .net .number ≡ w .number → MapOf job (m .track) (now (words .entry)) → 1 ≤ m .track → KeepsSummary job s m (now (stands .entry)) → KeepsSummary job (addWire job line w (some (placementAt (found .net) shape (top .0))) s) r (now (stands .exit))) ⌝ }
     ensures { λ r. ⌜ (JudgedInRange line r) ⌝ }
 {
     let net = found.net;

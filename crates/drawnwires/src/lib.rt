@@ -45,8 +45,8 @@ fn greater(u: usize, v: usize) -> usize
     u
 }
 
-// a less b; 0 where b is larger.
-fn less(a: usize, b: usize) -> usize
+// a minus b; 0 where b is larger.
+fn minus(a: usize, b: usize) -> usize
     ensures { λ r. ⌜ r ≡ a - b ⌝ }
 {
     if a < b {
@@ -69,7 +69,7 @@ fn only_place(net: Net, rows: ColumnRows) -> OnlyPlace
     let bottom = greater(rows.first, rows.last);
     OnlyPlace {
         top: Row(top),
-        shape: Shape::Stretched(less(bottom - top, board::span(net))),
+        shape: Shape::Stretched(minus(bottom - top, board::span(net))),
     }
 }
 

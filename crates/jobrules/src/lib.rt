@@ -15,7 +15,7 @@ ghost use Rattle.lists.specs.Lists.{allOf};
 ghost use Rattle.board.specs.Job.{Job};
 ghost use Rattle.board.specs.Accepted.{BoardInRange};
 ghost use Rattle.board.specs.Stored.{storedOf};
-ghost use Rattle.jobfile.specs.Read.{within, netInRange, blockInRange, pinsFree, boardOf, emptyBoard, addNet, addBlock};
+ghost use Rattle.jobfile.specs.Read.{within, netInRange, blockInRange, pinsFree, boardOf, emptyJob, addNet, addBlock};
 ghost use Rattle.jobfile.specs.Answers.{numberOf, lineOf};
 ghost use Rattle.jobrules.specs.Rules.{outcomeOf, RowsInRange, PinsOf, NetsAbove};
 
@@ -63,7 +63,7 @@ pub fn line_of(outcome: Outcome) -> usize
 
 // A job without nets and blocks.
 pub fn empty_job(rows: usize, tracks: usize) -> StoredJob
-    ensures { λ r. ⌜ r ≡ storedOf (emptyBoard (boardOf rows tracks)) ⌝ }
+    ensures { λ r. ⌜ r ≡ storedOf (emptyJob (boardOf rows tracks)) ⌝ }
 {
     let no_net = Net {
         number: 0,

@@ -20,7 +20,7 @@ ghost use Rattle.drc.specs.Pass.{PassState, passLine, passStep};
 ghost use Rattle.judging.specs.Judged.{KeepsState, KeepsStep, JudgedInRange, LineInRange};
 ghost use Rattle.judging.specs.Values.{MapOf};
 ghost use Rattle.layoutsteps.specs.LayoutSteps.{layoutStep, formNumber, LineIs};
-ghost use Rattle.layoutsteps.specs.Found.{SlotFor, FoundFits, WireOf, FormOf, FoundFor};
+ghost use Rattle.layoutsteps.specs.Found.{SlotFor, FoundFits, LineOfWire, LineOfForm, FoundFor};
 
 // What stands at a place of a layout text: the form of the line there, its first byte and the one after its last, and the place behind
 // it; or nothing more.
@@ -121,7 +121,7 @@ fn take_wire(
     requires { ⌜ LineInRange line ⌝ }
     requires { ⌜ JudgedInRange (line - 1) m ⌝ }
     requires { ⌜ FoundFits board found ⌝ }
-    requires { ⌜ WireOf found (now s) ⌝ }
+    requires { ⌜ LineOfWire found (now s) ⌝ }
     ensures { λ r. ⌜ ((job : Job) (st : PassState) (w : Wire) → AcceptedJob job → job .board ≡ board → FoundFor job (w .number) found → readLine (now (s .entry)) ≡ some (wire w) → MapOf job (m .track) (now (words .entry)) → KeepsState job st m (now (stands .entry)) → KeepsStep job (passLine job line st (wire w)) r (now (stands .exit))) ⌝ }
     ensures { λ r. ⌜ (JudgedInRange line r) ⌝ }
 {
@@ -155,7 +155,7 @@ pub fn take_line(
     requires { ⌜ LineInRange line ⌝ }
     requires { ⌜ JudgedInRange (line - 1) m ⌝ }
     requires { ⌜ FoundFits board found ⌝ }
-    requires { ⌜ (count ≤ 512) × FormOf found form (now s) ⌝ }
+    requires { ⌜ (count ≤ 512) × LineOfForm found form (now s) ⌝ }
     ensures { λ r. ⌜ ((job : Job) (st : PassState) (x : Option Line) → AcceptedJob job → job .board ≡ board → length (job .nets) ≡ count → FoundFor job (formNumber form) found → LineIs (now (s .entry)) x form → MapOf job (m .track) (now (words .entry)) → KeepsState job st m (now (stands .entry)) → KeepsStep job (passStep job line st x) r (now (stands .exit))) ⌝ }
     ensures { λ r. ⌜ (JudgedInRange line r) ⌝ }
 {

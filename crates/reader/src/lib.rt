@@ -22,7 +22,7 @@ ghost use Rattle.jobfile.specs.Answers.{answerOf};
 ghost use Rattle.jobfile.specs.RightAnswer.{RightAnswer};
 ghost use Rattle.jobrules.specs.Rules.{outcomeOf, RowsInRange};
 ghost use Rattle.reader.specs.Cursors.{formStep};
-ghost use Rattle.reader.specs.LinesAbove.{mayStand, entryOf, headAfter, stateOf, Held, jobAbove, NothingAbove, AboveOf, NetAfter};
+ghost use Rattle.reader.specs.LinesAbove.{formStands, entryOf, headAfter, stateOf, Held, jobAbove, NothingAbove, AboveOf, NetAfter};
 ghost use Rattle.reader.specs.Reports.{refusedText, reportText};
 
 // The reading place: it moves on by a whole line, never back.
@@ -188,7 +188,7 @@ fn entry_of(form: Form) -> Entry
 
 // Whether a line of this form may stand at a stage: refusal 2.
 fn form_stands(stage: usize, form: Form) -> bool
-    ensures { λ r. ⌜ r ≡ mayStand stage form ⌝ }
+    ensures { λ r. ⌜ r ≡ formStands stage form ⌝ }
 {
     match form {
         Form::Blank => true,

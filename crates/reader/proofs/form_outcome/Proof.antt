@@ -4,7 +4,7 @@ use mathlib.Core.Bool.{true}
 use borrow.Author.Tests.{not-true, not-false}
 use Rattle.board.specs.Stored.{jobOf}
 use Rattle.jobrules.specs.Rules.{outcomeOf}
-use Rattle.reader.specs.LinesAbove.{mayStand}
+use Rattle.reader.specs.LinesAbove.{formStands}
 use Rattle.reader.proofs.Slots.{blocks-used}
 use Rattle.reader.proofs.Lines.{wrong-place, rows-place, tracks-place, net-place, block-place, net-filled, block-filled, blank-line, board-line, close-line, other-line, net-stage, nets-above}
 use borrow.Author.Needs.{needs}
@@ -18,7 +18,7 @@ returns : tie.Need-returns
 unfolding outcomeOf
 returns c job h = ap outcomeOf (wrong-place _ _ job _ (sym (c .before .form-stands .ensures) ∙ not-true _ (c .if1 .taken)))
 
-in-place : (c : tie.Else1) → mayStand (c .before .before .args .above .stage) (c .before .before .args .form) ≡ true
+in-place : (c : tie.Else1) → formStands (c .before .before .args .above .stage) (c .before .before .args .form) ≡ true
 in-place c = sym (c .before .form-stands .ensures) ∙ not-false _ (c .if1 .left)
 
 enum-told : tie.Need-enum-told

@@ -115,7 +115,7 @@ fn is_net_in_range(size: Board, net: Net) -> bool
     net.max <= 4095
 }
 
-// Refusal 3 of a block.
+// Refusal 3 of a block: whether its numbers are in their ranges, and A ≤ B.
 fn is_block_in_range(size: Board, block: Block) -> bool
     ensures { λ r. ⌜ r ≡ blockInRange size block ⌝ }
 {

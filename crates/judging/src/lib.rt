@@ -86,7 +86,7 @@ pub fn net_index(numbers: &[usize; 512], count: usize, number: usize) -> usize
     512
 }
 
-// Whether none of some rows is blocked.
+// Whether none of the `rows` rows from `top` on is blocked.
 pub fn rows_clear(words: &[u64; 16], top: Row, rows: usize) -> bool
     requires { ⌜ (1 ≤ top .0) × (top .0 + rows ≤ 1025) ⌝ }
     ensures { λ r. ⌜ r ≡ allUnset (now (words .entry)) (top .0) rows ⌝ }
@@ -130,7 +130,7 @@ pub fn is_ready(before: usize, stands: &[usize; 512], track: usize) -> bool
     above < track
 }
 
-// Whether every net has a line above.
+// Whether each of the `count` nets has a line above.
 pub fn all_lined(stands: &[usize; 512], count: usize) -> bool
     requires { ⌜ count ≤ 512 ⌝ }
     ensures { λ r. ⌜ r ≡ allLined (now (stands .entry)) count ⌝ }
@@ -221,7 +221,7 @@ fn is_end_turn(tracks: usize, m: LinesJudged) -> bool
     (m.stage == RUNNING) & (m.track == tracks)
 }
 
-// The opening line.
+// What the opening line leads to.
 pub fn take_opening(m: LinesJudged, line: usize) -> LinesJudged
     ensures { λ r. ⌜ ((job : Job) (st : PassState) (stands : List ℕ) → KeepsState job st m stands → KeepsStep job (passLine job line st opens) r stands) ⌝ }
     ensures { λ r. ⌜ (JudgedInRange line r) ⌝ }
@@ -236,7 +236,7 @@ pub fn take_opening(m: LinesJudged, line: usize) -> LinesJudged
     }
 }
 
-// A track line, on a board with so many tracks.
+// What a track line leads to, on a board with so many tracks.
 pub fn take_track(
     tracks: usize,
     m: LinesJudged,
@@ -312,7 +312,7 @@ fn first_breach(breach: usize, passed: bool, line: usize) -> usize
     line
 }
 
-// A wire that draws no placement of its net, where it can stand: it is broken, and counts by its number.
+// What a wire that draws no placement of its net leads to, where a wire can stand: it is broken, and counts by its number.
 pub fn add_undrawn(m: LinesJudged, line: usize, worth: usize) -> LinesJudged
     requires { ⌜ LineInRange line ⌝ }
     requires { ⌜ JudgedInRange (line - 1) m ⌝ }
@@ -328,7 +328,7 @@ pub fn add_undrawn(m: LinesJudged, line: usize, worth: usize) -> LinesJudged
     }
 }
 
-// A wire that draws its net in a shape with its top at a row, where it can stand.
+// What a wire that draws its net in a shape with its top at a row leads to, where a wire can stand: it counts, broken or not.
 pub fn add_drawn(
     board: Board,
     found: NetFound,
@@ -362,7 +362,7 @@ pub fn add_drawn(
     }
 }
 
-// A loose line, where `index` is the index of the net with its number, 512 if no net has it.
+// What a loose line leads to, where `index` is the index of the net with its number, 512 if no net has it.
 pub fn take_loose(
     tracks: usize,
     m: LinesJudged,
@@ -397,7 +397,7 @@ pub fn take_loose(
     LinesJudged { last: number, ..m }
 }
 
-// The closing line, of a job with so many nets.
+// What the closing line leads to, where the job has `count` nets.
 pub fn take_closing(
     tracks: usize,
     m: LinesJudged,

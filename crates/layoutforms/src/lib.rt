@@ -293,7 +293,8 @@ fn rows_from(s: &[u8], at: usize, column: usize) -> ColumnRows
     rows
 }
 
-// The rows of the first and of the last point in a column, where s is the line of a wire, without its byte 10.
+// The rows of the first and of the last point in a column, where s is the line of a wire, without its byte 10. The number of the wire
+// begins at byte 7, behind ` (wire `, and the points stand behind it.
 pub fn column_rows(s: &[u8], column: usize) -> ColumnRows
     ensures { λ r. ⌜ RowsOf (now (s .entry)) column r ⌝ }
 {

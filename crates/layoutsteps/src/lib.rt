@@ -108,7 +108,7 @@ pub fn net_found(at: NetSlot, net: Net) -> NetFound
     }
 }
 
-// A wire line, where `found` is the net of its number, with index 512 if there is none.
+// What a wire line leads to, where `found` is the net of its number, with index 512 if there is none.
 fn take_wire(
     board: Board,
     found: NetFound,
@@ -140,7 +140,7 @@ fn take_wire(
     }
 }
 
-// A line of a form, of a job with so many nets.
+// What a line of any form leads to, where the job has `count` nets and s is the line, without its byte 10.
 pub fn take_line(
     board: Board,
     count: usize,

@@ -53,9 +53,3 @@ pub long-plan : planOf (record { board = triedBoard 21; nets = triedNet 23 23 �
     record { sum = 12; wires = placementAt (triedNet 23 23) (Stretched 7) 10 ∷ [] } ∷ []
 unfolding planned
 long-plan = refl
-
--- no nets: all sums 0
-pub empty-plan : planOf (record { board = record { rows = 21; tracks = 3 }; nets = []; blocks = [] }) ≡
-    record { sum = 0; wires = [] } ∷ record { sum = 0; wires = [] } ∷ record { sum = 0; wires = [] } ∷ []
-unfolding planned
-empty-plan = refl

@@ -4,7 +4,7 @@ use board::Net;
 use board::Row;
 use board::Shape;
 use board::Track;
-use layoutforms::ColumnRows;
+use layoutforms::rows::ColumnRows;
 ghost use mathlib.Core.Path.{_≡_};
 ghost use Prim.Native.Nat.{_≤_, _-_, min, max};
 ghost use Rattle.text.specs.Bytes.{same};
@@ -130,7 +130,7 @@ pub fn drawn_place(board: Board, net: Net, track: Track, s: &[u8]) -> DrawnPlace
     requires { ⌜ (1 ≤ track .0) × (track .0 ≤ board .tracks) ⌝ }
     ensures { λ r. ⌜ DrawnIn (now (s .entry)) board (track .0) net r ⌝ }
 {
-    let rows = layoutforms::column_rows(s, 2 * track.0);
+    let rows = layoutforms::rows::column_rows(s, 2 * track.0);
     let p = only_place(net, rows);
     let top = p.top;
     let shape = p.shape;

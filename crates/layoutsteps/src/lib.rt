@@ -88,7 +88,7 @@ pub fn find_slot<'a>(
     requires { ⌜ count ≤ 512 ⌝ }
     ensures { λ r. ⌜ SlotFor (now (numbers .entry)) (now (before .entry)) count (formNumber form) r ⌝ }
 {
-    let index = judging::net_index(numbers, count, form_number(form));
+    let index = judging::nets::net_index(numbers, count, form_number(form));
     let slot = slot_of(index);
     NetSlot {
         index,
@@ -129,13 +129,13 @@ fn take_wire(
         return judging::closed(m, line);
     }
     if found.index == 512 {
-        return judging::add_undrawn(m, line, 0);
+        return judging::wires::add_undrawn(m, line, 0);
     }
     let net = found.net;
     match drawnwires::drawn_place(board, net, Track(m.track), s) {
-        DrawnPlace::Nothing => judging::add_undrawn(m, line, board::worth(board, net)),
+        DrawnPlace::Nothing => judging::wires::add_undrawn(m, line, board::worth(board, net)),
         DrawnPlace::At { top, shape } => {
-            judging::add_drawn(board, found, words, stands, m, line, top, shape)
+            judging::wires::add_drawn(board, found, words, stands, m, line, top, shape)
         }
     }
 }

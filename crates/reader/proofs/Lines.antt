@@ -20,9 +20,9 @@ use Rattle.jobfile.specs.Answers.{numberOf}
 use Rattle.jobrules.specs.Rules.{outcomeOf, NetsAbove}
 use Rattle.jobrules.proofs.Outcomes.{Passes}
 use Rattle.reader.specs.LinesAbove.{formStands, entryOf, stateOf, Filled, Held, AboveOf}
-use Rattle.reader.specs.declared.LinesAbove.{LinesAbove}
+use Rattle.reader.specs.declared.lines_above.LinesAbove.{LinesAbove}
 use Rattle.reader.proofs.Slots.{nets-used}
-use Rattle.reader.specs.declared.Entry.the-variants.{OfNet, OfBlock}
+use Rattle.reader.specs.declared.lines_above.Entry.the-variants.{OfNet, OfBlock}
 
 -- a form out of its place
 

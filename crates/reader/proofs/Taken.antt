@@ -21,8 +21,8 @@ use Rattle.jobrules.proofs.Pins.{rows-in-range}
 use Rattle.jobrules.proofs.Outcomes.{Passes, unless-leads, net-few, net-ranged, net-goes, block-few, block-goes}
 use Rattle.jobfile.proofs.Tests.{net-range-is}
 use Rattle.reader.specs.LinesAbove.{formStands, entryOf, atStage, headAfter, stateOf, stageOf, valueOf, Filled, Held, jobAbove, PinsAbove, NetAfter}
-use Rattle.reader.specs.declared.LinesAbove.{LinesAbove}
-use Rattle.reader.specs.declared.Entry.the-variants.{OfNet, OfBlock, Nothing}
+use Rattle.reader.specs.declared.lines_above.LinesAbove.{LinesAbove}
+use Rattle.reader.specs.declared.lines_above.Entry.the-variants.{OfNet, OfBlock, Nothing}
 use Rattle.reader.proofs.Slots.{nets-used, blocks-used, net-more, block-more}
 use Rattle.reader.proofs.Lines.{stands, net-line, block-line}
 

@@ -14,9 +14,9 @@ use Rattle.jobfile.specs.declared.Form.the-variants as Is
 use Rattle.jobfile.specs.Read.{State, start, opened, sized, filled, closed, lastNumber, netOf, blockOf, boardOf, emptyJob}
 use Rattle.jobfile.specs.Answers.{noJob}
 use Rattle.jobrules.specs.Rules.{PinsOf}
-use Rattle.reader.specs.declared.LinesAbove.{LinesAbove}
-use Rattle.reader.specs.declared.Entry.{Entry}
-use Rattle.reader.specs.declared.Entry.the-variants.{OfNet, OfBlock, Nothing}
+use Rattle.reader.specs.declared.lines_above.LinesAbove.{LinesAbove}
+use Rattle.reader.specs.declared.lines_above.Entry.{Entry}
+use Rattle.reader.specs.declared.lines_above.Entry.the-variants.{OfNet, OfBlock, Nothing}
 
 -- a line of this form may stand at a stage
 unfoldable pub formStands : ℕ → Form → Bool

@@ -8,8 +8,10 @@ use native.Mathlib.Omega.{arith}
 use lib.Dec.{eqb}
 use borrow.Author.Tests.{eqb-true, eqb-false}
 use Rattle.lists.proofs.Cases.{by-test}
-use Rattle.board.specs.Job.{Job, blocked}
-use Rattle.board.specs.Placement.{Placement, Clear, covered, bottom}
+use Rattle.board.specs.Job.{Job}
+use Rattle.board.specs.Placement.{Placement, Clear, covered}
+use Rattle.board.specs.Tests.{clearRows}
+use Rattle.board.proofs.ExactTests.{clear-rows, rows-clear}
 use Rattle.blockmap.specs.Bits.{isSet, MapOf}
 use Rattle.blockmap.specs.Clear.{allUnset}
 
@@ -56,22 +58,21 @@ clear-of words top (suc m) f =
     rw (clear-of words top m (λ row h l. f row h (omega arith)), f (top + m) (omega arith) (omega arith))
 
 module _ (job : Job) (t : ℕ) (words : List ℕ) (map : MapOf job t words) where
-  -- of rows of the board
-  pub unblocked-at : (top m : ℕ) → 1 ≤ top → top + m ≤ job .board .rows + 1 → allUnset words top m ≡ true
-      → (row : ℕ) → top ≤ row → row < top + m → blocked job t row ≡ false
-  unblocked-at top m o h c row a b = sym (map row (omega arith) (omega arith)) ∙ clear-at words top m c row a b
+  -- rows are clear in the block map of a track exactly if none of them is blocked
+  pub clear-same : (top m : ℕ) → allUnset words top m ≡ clearRows job t top m
+  clear-same top m =
+      by-test (allUnset words top m)
+      (λ e. e ∙ sym (rows-clear job t top m (λ row a b. sym (map row) ∙ clear-at words top m e row a b)))
+      (λ e.
+      by-test (clearRows job t top m)
+      (λ f. absurd (true≢false (sym (clear-of words top m (λ row a b. map row ∙ clear-rows job t top m f row a b)) ∙ e)))
+      (λ f. e ∙ sym f))
 
-  pub unblocked-of : (top m : ℕ) → 1 ≤ top → top + m ≤ job .board .rows + 1
-      → ((row : ℕ) → top ≤ row → row < top + m → blocked job t row ≡ false) → allUnset words top m ≡ true
-  unblocked-of top m o h f = clear-of words top m (λ row a b. map row (omega arith) (omega arith) ∙ f row a b)
-
-  -- of a placement within the board
-  pub placement-clear : (p : Placement) → 1 ≤ p .top → bottom p ≤ job .board .rows
-      → allUnset words (p .top) (covered (p .net) (p .shape)) ≡ true → Clear job t p
+  -- so a placement is clear of blocks exactly if its covered rows are clear
+  pub placement-clear : (p : Placement) → allUnset words (p .top) (covered (p .net) (p .shape)) ≡ true → Clear job t p
   unfolding covered
-  placement-clear p o h c row a b = unblocked-at (p .top) (covered (p .net) (p .shape)) o (omega arith) c row a (omega arith)
+  placement-clear p c row a b = sym (map row) ∙ clear-at words (p .top) (covered (p .net) (p .shape)) c row a (omega arith)
 
-  pub clear-placement : (p : Placement) → 1 ≤ p .top → bottom p ≤ job .board .rows
-      → Clear job t p → allUnset words (p .top) (covered (p .net) (p .shape)) ≡ true
+  pub clear-placement : (p : Placement) → Clear job t p → allUnset words (p .top) (covered (p .net) (p .shape)) ≡ true
   unfolding covered
-  clear-placement p o h f = unblocked-of (p .top) (covered (p .net) (p .shape)) o (omega arith) (λ row a b. f row a (omega arith))
+  clear-placement p f = clear-of words (p .top) (covered (p .net) (p .shape)) (λ row a b. map row ∙ f row a (omega arith))

@@ -1,5 +1,5 @@
 -- Document 01, "Board and grid": "Blocked rows are kept one bit a row, 64 rows to a word."
-use Prim.Native.Nat.{ℕ, zero, suc, _/_, _%_, _^_, _≤_}
+use Prim.Native.Nat.{ℕ, zero, suc, _/_, _%_, _^_}
 use mathlib.Core.Path.{_≡_}
 use mathlib.Core.Bool.{Bool, false}
 use mathlib.Core.List.{List}
@@ -12,6 +12,6 @@ unfoldable pub isSet : List ℕ → ℕ → Bool
 isSet words zero = false
 isSet words (suc i) = eqb (getD words (i / 64) 0 / 2 ^ (i % 64) % 2) 1
 
--- the words are the block map of track t: of rows 1 to H exactly the blocked ones are set; of the bits of rows above H nothing is said
+-- the words are the block map of track t: the bits of exactly the blocked rows are set
 abbrev pub MapOf : Job → ℕ → List ℕ → Type 0
-MapOf job t words = (row : ℕ) → 1 ≤ row → row ≤ job .board .rows → isSet words row ≡ blocked job t row
+MapOf job t words = (row : ℕ) → isSet words row ≡ blocked job t row

@@ -5,8 +5,8 @@ ghost use Rattle.board.specs.Length as lengths;
 ghost use Rattle.board.specs.Placement as placements;
 ghost use Rattle.board.specs.Accepted.{BoardInRange, NetInRange};
 
-// A row of the channel, 1 to 1,024 from the top; its bit and array index are row − 1. Another number stands only in an unused slot of a job by
-// value (0), in a wire of a layout text that is not yet tested, and in the net or block of a line that is not yet tested, which `reader` makes from the numbers of the line.
+// A row of the channel, 1 to 1,024 from the top; its bit and array index are row − 1. Another number stands only in an unused slot of a
+// job by value (0), and in what is not yet tested: the net or block that `reader` makes of a line, the top that a wire of a layout has.
 pub struct Row(pub usize);
 
 // A track of the channel, 1 to 128 from the left. Another number stands only in an unused slot of a job by value (0), in the block of a

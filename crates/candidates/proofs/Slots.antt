@@ -1,23 +1,21 @@
 -- Gathering slot after slot: the arrays and the flags with one more candidate, and what stands in each slot afterwards. Assumes nothing.
 use Prim.Native.Nat.{ℕ, suc, _+_, _*_, _-_, _≤_, _<_}
 use mathlib.Core.Path.{_≡_, refl, sym, ap, _∙_}
-use mathlib.Core.Bool.{Bool, true≢false}
+use mathlib.Core.Bool.{Bool}
 use mathlib.Core.List.{List, [], _∷_, _++_, map, map-append}
 use native.Mathlib.Omega.{arith}
 use lib.ListN.{length, getD, take, drop, set, replicate, length-append, length-map, length-drop}
 use lib.Seq.{length-take-le, append-snoc}
-use Rattle.lists.proofs.Cases.{by-test}
 use Rattle.board.specs.declared.Board.{Board}
 use Rattle.board.specs.Length.{shortest, needed, worth}
-use Rattle.board.specs.Job.{Job, blocked}
+use Rattle.board.specs.Job.{Job}
 use Rattle.board.specs.Placement.{firstTop, lastTop}
 use Rattle.board.specs.Accepted.{AcceptedJob}
 use Rattle.board.proofs.Tops.{first-top-one, top-range}
 use Rattle.board.specs.Tests as tests
-use Rattle.board.proofs.ExactTests.{clear-rows, rows-clear}
-use Rattle.blockmap.specs.Bits.{isSet}
+use Rattle.blockmap.specs.Bits.{MapOf}
 use Rattle.blockmap.specs.Clear.{allUnset, flag, flagTops}
-use Rattle.blockmap.proofs.ClearRows.{clear-at, clear-of}
+use Rattle.blockmap.proofs.ClearRows.{clear-same}
 use Rattle.blockmap.proofs.ClearTops.{flags-same, flags-length, flags-at}
 use Rattle.candidates.specs.declared.Candidates.{Candidates}
 use Rattle.candidates.specs.declared.NetTops.{NetTops}
@@ -26,17 +24,6 @@ use Rattle.candidates.specs.Gathered.{Candidate, TopsOf, arraysOf, onPar
 use Rattle.candidates.proofs.Prefixes.{padded-more}
 use Rattle.candidates.proofs.Eligible.{candidates-length}
 use Rattle.candidates.proofs.FlagParts.{part-same, part-length, part-at, part-below}
-
--- ---- rows that are clear in the block map are clear of blocks
-pub clear-same : (job : Job) (t : ℕ) (words : List ℕ) → ((row : ℕ) → isSet words row ≡ blocked job t row)
-    → (top m : ℕ) → allUnset words top m ≡ tests.clearRows job t top m
-clear-same job t words map top m =
-    by-test (allUnset words top m)
-    (λ e. e ∙ sym (rows-clear job t top m (λ row a b. sym (map row) ∙ clear-at words top m e row a b)))
-    (λ e.
-    by-test (tests.clearRows job t top m)
-    (λ f. absurd (true≢false (sym (clear-of words top m (λ row a b. map row ∙ clear-rows job t top m f row a b)) ∙ e)))
-    (λ f. e ∙ sym f))
 
 -- ---- one more candidate
 -- the arrays with candidate x behind the others
@@ -71,7 +58,7 @@ arrays-more board c xs x tops e h t =
 
 -- ---- the flags of one more candidate
 -- part i, flagged by the block map, is that of the candidate
-pub slot-flagged : (job : Job) (t : ℕ) (words : List ℕ) → ((row : ℕ) → isSet words row ≡ blocked job t row)
+pub slot-flagged : (job : Job) (t : ℕ) (words : List ℕ) → MapOf job t words
     → (x : Candidate) (tops : NetTops) → TopsOf (job .board) (x .net) tops → (i : ℕ) (bytes : List ℕ)
     → onPart i (flagTops (λ top. allUnset words top (tops .need)) (tops .first .0) (tops .last .0 + 1 - tops .first .0)) bytes ≡ flagSlot job t i x bytes
 unfolding flagSlot

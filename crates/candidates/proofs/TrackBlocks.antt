@@ -17,7 +17,7 @@ use Rattle.board.specs.declared.StoredJob.{StoredJob}
 use Rattle.board.specs.Job.{Job, closesRow, blocked}
 use Rattle.board.specs.Stored.{jobOf, noBlock}
 use Rattle.board.specs.Accepted.{BlockInRange}
-use Rattle.blockmap.specs.Bits.{isSet}
+use Rattle.blockmap.specs.Bits.{isSet, MapOf}
 use Rattle.board.specs.Stored.{AcceptedStored}
 use Rattle.candidates.specs.Placed.{hasBlocks}
 
@@ -39,7 +39,7 @@ map-more old words t bs i d h p q row =
 
 -- after the last
 pub map-all : (words : List ℕ) (s : StoredJob) (t i : ℕ) → i ≤ s .nblocks → s .nblocks ≤ i → MapFrom words t (take i (s .blocks))
-    → (row : ℕ) → isSet words row ≡ blocked (jobOf s) t row
+    → MapOf (jobOf s) t words
 unfolding blocked
 map-all words s t i a b p row =
     let e : i ≡ s .nblocks = omega arith in

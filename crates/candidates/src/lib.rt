@@ -3,9 +3,8 @@ ghost use mathlib.Core.Path.{_≡_};
 ghost use Prim.Native.Nat.{ℕ, _-_, _≤_, _<_};
 ghost use lib.ListN.{getD};
 ghost use lib.Dec.{eqb};
-ghost use Rattle.board.specs.Job.{blocked};
 ghost use Rattle.board.specs.Stored.{jobOf, AcceptedStored};
-ghost use Rattle.blockmap.specs.Bits.{isSet};
+ghost use Rattle.blockmap.specs.Bits.{MapOf};
 ghost use Rattle.candidates.specs.Placed.{indexFrom, precedingOf, eligibleAt, hasBlocks};
 use blockmap::BlockMap;
 use board::Row;
@@ -49,7 +48,7 @@ pub fn has_blocks(job: StoredJob, track: Track) -> bool
 // The blocked rows of a track.
 pub fn block_map(job: StoredJob, track: Track) -> BlockMap
     requires { ⌜ AcceptedStored job ⌝ }
-    ensures { λ r. ⌜ ((row : ℕ) → isSet (r .words) row ≡ blocked (jobOf job) (track .0) row) ⌝ }
+    ensures { λ r. ⌜ MapOf (jobOf job) (track .0) (r .words) ⌝ }
 {
     let nblocks = job.nblocks;
     let mut map = blockmap::no_rows();

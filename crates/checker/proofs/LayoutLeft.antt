@@ -4,8 +4,7 @@ use mathlib.Core.Path.{_≡_, refl, sym, ap, _∙_}
 use mathlib.Core.List.{List}
 use native.Mathlib.Omega.{arith}
 use lib.ListN.{length, take, drop, replicate}
-use Rattle.board.specs.Job.{Job, blocked}
-use Rattle.blockmap.specs.Bits.{isSet}
+use Rattle.board.specs.Job.{Job}
 use Rattle.blockmap.proofs.RowBits.{getD-zeros}
 use Rattle.board.specs.Accepted.{AcceptedJob}
 use Rattle.lines.specs.Places.{stepAt}
@@ -22,7 +21,7 @@ use Rattle.drc.specs.Pass.{PassState, unbegun, running, finished, PassStep, pas
 use Rattle.drc.proofs.OnePass.{one-pass}
 use Rattle.judging.specs.declared.LinesJudged.{LinesJudged}
 use Rattle.judging.specs.Judged.{KeepsState, KeepsStep, JudgedInRange}
-use Rattle.judging.specs.Values.{notBegun, closedOf, MapIs}
+use Rattle.judging.specs.Values.{notBegun, closedOf, MapOf}
 use Rattle.judging.proofs.Turns.{closes-ill-formed}
 use Rattle.layoutsteps.specs.declared.LayoutStep.the-variants as At
 use Rattle.checker.specs.declared.CheckAnswer.the-variants as Is
@@ -84,13 +83,13 @@ pub record LayoutLeft (job : Job) (s : List ℕ) (j : LinesJudged) (stands words
   pub state : PassState
   pub keeps : KeepsState job state j stands
   pub range : JudgedInRange (p .passed) j
-  pub map : MapIs job (j .track) words
+  pub map : MapOf job (j .track) words
   pub counted : p .passed ≤ p .at
   pub inside : p .at ≤ length s
   pub rest : passOver job s ≡ passFrom job (suc (p .passed)) state (linesRead (drop (p .at) s))
 
 pub left-start : (job : Job) (s : List ℕ) (j : LinesJudged) (words : List ℕ) (p : Place) → length (job .nets) ≤ 512 → j ≡ notBegun →
-    ((row : ℕ) → isSet words row ≡ blocked job 0 row) →
+    MapOf job 0 words →
     p .at ≡ 0 → p .passed ≡ 0 → LayoutLeft job s j (replicate 512 0) words p
 unfolding passOver
 left-start job s j words p room e blocks f h =
@@ -135,7 +134,7 @@ module _ (job : Job) (s : List ℕ) (j : LinesJudged) (stands words : List ℕ) 
       pub left-broken : i .stage ≡ 3 → passOver job s ≡ broken-at (i .breach)
       left-broken z = turn ∙ decided job led i after _ k z
 
-      pub left-more : (words′ : List ℕ) → (i .stage ≡ 3 → ⊥) → JudgedInRange (p .passed + 1) i → MapIs job (i .track) words′ → LayoutLeft job s i after words′ n
+      pub left-more : (words′ : List ℕ) → (i .stage ≡ 3 → ⊥) → JudgedInRange (p .passed + 1) i → MapOf job (i .track) words′ → LayoutLeft job s i after words′ n
       unfolding afterStep
       left-more words′ d r blocks =
           let g = undecided job led i after k d in

@@ -133,7 +133,7 @@ pub fn check(job: &[u8], layout: &[u8]) -> CheckAnswer
         return CheckAnswer::LayoutTooLong;
     }
     let stored = answer.job;
-    let numbers = judging::numbers_of(stored);
+    let numbers = judging::nets::numbers_of(stored);
     let before = candidates::preceding(stored);
     judge_lines(stored, &numbers, &before, layout)
 }

@@ -1,4 +1,5 @@
--- What `band_of`, `row_pick` and `fill` compute, over the arrays of the candidates. FilledPlan.antt in proofs/ shows that it is the plan of the track.
+-- What `band_of`, `row_pick` and `fill` compute, over the arrays of the candidates. proofs/FilledPlan.antt shows that it is the plan of
+-- the track.
 use Prim.Native.Nat.{ℕ, zero, suc, _+_, _*_, _-_, _≤_, _<_}
 use mathlib.Core.Bool.{Bool, cond, _&&_}
 use mathlib.Core.List.{List}

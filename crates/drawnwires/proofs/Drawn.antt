@@ -31,7 +31,7 @@ use Rattle.layout.specs.Drawing.{wireColumn, pointsOn, wireOf}
 use Rattle.layout.specs.Drawn.{firstIn, placementFrom, placementOf}
 use Rattle.layout.proofs.RoundTrip.{rough-line, read-line-sound}
 use Rattle.sound.proofs.Bounds.{wire-length, wire-bounds}
-use Rattle.layoutforms.specs.declared.ColumnRows.{ColumnRows}
+use Rattle.layoutforms.specs.declared.rows.ColumnRows.{ColumnRows}
 use Rattle.layoutforms.specs.Rows.{rowsFrom, rowsIn, RowsOf}
 use Rattle.writer.specs.Lines.{wireLine, Drawable}
 use Rattle.drc.specs.Covers.{samePoints, isOnBoard, drawnOf}

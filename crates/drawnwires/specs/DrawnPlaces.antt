@@ -17,7 +17,7 @@ use Rattle.layout.specs.Tree.{Wire, wire}
 use Rattle.layout.specs.LayoutText.{lineText}
 use Rattle.layout.specs.ReadBack.{readLine}
 use Rattle.layout.specs.Drawing.{wireOf}
-use Rattle.layoutforms.specs.declared.ColumnRows.{ColumnRows}
+use Rattle.layoutforms.specs.declared.rows.ColumnRows.{ColumnRows}
 use Rattle.drc.specs.Covers.{drawnOf}
 use Rattle.drawnwires.specs.declared.OnlyPlace.{OnlyPlace}
 use Rattle.drawnwires.specs.declared.DrawnPlace.{DrawnPlace}

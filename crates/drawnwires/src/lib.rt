@@ -4,7 +4,7 @@ use board::Net;
 use board::Row;
 use board::Shape;
 use board::Track;
-use layoutforms::ColumnRows;
+use layoutforms::rows::ColumnRows;
 ghost use mathlib.Core.Path.{_≡_};
 ghost use Prim.Native.Nat.{_≤_, _-_, min, max};
 ghost use Rattle.text.specs.Bytes.{same};
@@ -45,8 +45,8 @@ fn greater(u: usize, v: usize) -> usize
     u
 }
 
-// a less b; 0 where b is larger.
-fn less(a: usize, b: usize) -> usize
+// a minus b; 0 where b is larger.
+fn minus(a: usize, b: usize) -> usize
     ensures { λ r. ⌜ r ≡ a - b ⌝ }
 {
     if a < b {
@@ -69,7 +69,7 @@ fn only_place(net: Net, rows: ColumnRows) -> OnlyPlace
     let bottom = greater(rows.first, rows.last);
     OnlyPlace {
         top: Row(top),
-        shape: Shape::Stretched(less(bottom - top, board::span(net))),
+        shape: Shape::Stretched(minus(bottom - top, board::span(net))),
     }
 }
 
@@ -130,7 +130,7 @@ pub fn drawn_place(board: Board, net: Net, track: Track, s: &[u8]) -> DrawnPlace
     requires { ⌜ (1 ≤ track .0) × (track .0 ≤ board .tracks) ⌝ }
     ensures { λ r. ⌜ DrawnIn (now (s .entry)) board (track .0) net r ⌝ }
 {
-    let rows = layoutforms::column_rows(s, 2 * track.0);
+    let rows = layoutforms::rows::column_rows(s, 2 * track.0);
     let p = only_place(net, rows);
     let top = p.top;
     let shape = p.shape;

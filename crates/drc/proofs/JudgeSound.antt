@@ -1,6 +1,6 @@
 -- The verdict on a text is sound exactly if the text is a sound layout, and exactly if none of its lines is broken. Assumes nothing.
 use Prim.Native.Nat.{ℕ}
-use mathlib.Core.Path.{_≡_, refl, sym, ap, _∙_}
+use mathlib.Core.Path.{_≡_, refl, ap, _∙_}
 use mathlib.Core.Logic.{_↔_}
 use mathlib.Core.List.{List, [], Memᴰ·append-right}
 use native.Mathlib.Omega.{arith}
@@ -15,7 +15,7 @@ use Rattle.drc.specs.Standing.{linesRead}
 use Rattle.drc.specs.Breach.{Breach}
 use Rattle.drc.specs.Judge.{Verdict, sound-text, broken-at, judge}
 use Rattle.drc.proofs.Lines.{ofForm, lines-of-text}
-use Rattle.drc.proofs.FirstBroken.{not-sound, judge-breach, judge-no-breach}
+use Rattle.drc.proofs.FirstBroken.{judge-breach, judge-no-breach}
 use Rattle.drc.proofs.RulesByLine.{tree-sound}
 use Rattle.drc.proofs.JudgedTree.{sound-tree}
 use Rattle.drc.proofs.RulesToSound.{kept-tree-sound}
@@ -56,7 +56,3 @@ module _ (job : Job) (a : AcceptedJob job) (text : List ℕ) where
     λ s l b. judge-no-breach job a text l (sound-judge s) b,
     λ f. by-verdict (judge job text) judge-sound (λ l e. absurd (f l (judge-breach job a text l e))),
   )
-
-  -- a text that is called broken is no sound layout
-  pub broken-not-sound : (l : ℕ) → judge job text ≡ broken-at l → Sound job text → ⊥
-  broken-not-sound l e s = not-sound l (sym e ∙ sound-judge s)

@@ -11,13 +11,12 @@ use Rattle.board.specs.declared.Net.{Net}
 use Rattle.board.specs.declared.StoredJob.{StoredJob}
 use Rattle.board.specs.declared.Board.{Board}
 use Rattle.board.specs.Length.{shortest}
-use Rattle.board.specs.Job.{blocked}
 use Rattle.board.specs.Accepted.{BoardInRange, AcceptedNet}
 use Rattle.board.specs.Stored.{jobOf, noNet}
 use Rattle.board.proofs.ShortestShape.{needed-covered, needed-pos}
 use Rattle.board.proofs.Tops.{accepted-fits, first-top-one, some-top, last-top-room}
 use Rattle.board.specs.Tests.{isEligible}
-use Rattle.blockmap.specs.Bits.{isSet}
+use Rattle.blockmap.specs.Bits.{MapOf}
 use Rattle.blockmap.specs.Clear.{allUnset, flagTops}
 use Rattle.blockmap.proofs.ClearTops.{flags-length}
 use Rattle.candidates.specs.declared.Candidates.{Candidates}
@@ -52,7 +51,7 @@ firstCandidates s placed i = candidatesFrom (jobOf s) (placedNumbers (jobOf s) p
 pub record Passed (s : StoredJob) (placed words before : List ℕ) (found : Candidates) (flags : List ℕ) (i : ℕ) : Type 0 where
   pub arrays : found ≡ arraysOf (s .board) (firstCandidates s placed i)
   pub size : length flags ≡ length before
-  pub bytes : (t : ℕ) → ((row : ℕ) → isSet words row ≡ blocked (jobOf s) t row)
+  pub bytes : (t : ℕ) → MapOf (jobOf s) t words
       → flags ≡ flagSlots (jobOf s) t 0 (firstCandidates s placed i) before
 
 pub passed-none : (s : StoredJob) (placed words before : List ℕ) (found : Candidates) → found ≡ arraysOf (s .board) []
@@ -124,7 +123,7 @@ module _ (s : StoredJob) (accepted : AcceptedStored s) (net-size : length (s .ne
         }
 
   -- after all nets
-  pub passed-all : (t : ℕ) → ((row : ℕ) → isSet words row ≡ blocked (jobOf s) t row) → 524288 ≤ length before → i ≤ s .nnets → s .nnets ≤ i
+  pub passed-all : (t : ℕ) → MapOf (jobOf s) t words → 524288 ≤ length before → i ≤ s .nnets → s .nnets ≤ i
       → Passed s placed words before found flags i → GatheredFrom (jobOf s) placed t before found flags
   unfolding candidatesOf
   passed-all t map room a b p =

@@ -22,7 +22,7 @@ use Rattle.jobfile.specs.declared.Form.the-variants as Is
 use Rattle.jobfile.specs.declared.Outcome.{Outcome}
 use Rattle.jobfile.specs.declared.Outcome.the-variants.{TooLong, NotOfForm}
 use Rattle.jobfile.specs.Forms.{readForm}
-use Rattle.jobfile.specs.Read.{State, start, opened, sized, filled, closed, Next, go, stop, unless, atStart, atOpened, atSized, atFilled, netOf, blockOf, boardOf, emptyBoard, withNet, withBlock, netInRange, blockInRange, lastNumber, pinsFree, addNet, addBlock, step, Read, accepted, refused, ended, follow, readFrom, readJob}
+use Rattle.jobfile.specs.Read.{State, start, opened, sized, filled, closed, Next, go, stop, unless, atStart, atOpened, atSized, atFilled, netOf, blockOf, boardOf, emptyJob, withNet, withBlock, netInRange, blockInRange, lastNumber, pinsFree, addNet, addBlock, step, Read, accepted, refused, ended, follow, readFrom, readJob}
 use Rattle.lists.proofs.Joins.{Each-each, EachPair-join}
 use Rattle.jobfile.proofs.Tests.{read-cases, within-is, differ-is, net-range-is, block-range-is, free-is, length-is}
 
@@ -146,7 +146,7 @@ module _ (k : ℕ) (job : Job) (b : Block) (a : AcceptedJob job) where
   block-gives =
       unless-gives _ _ _ (λ e3. unless-gives _ _ _ (λ e4. go-gives (filled (withBlock job b)) (block-accepted (search) (search))))
 
-empty-accepted : (h k : ℕ) → (1 ≤ h) × (h ≤ 1024) → (1 ≤ k) × (k ≤ 128) → AcceptedJob (emptyBoard (boardOf h k))
+empty-accepted : (h k : ℕ) → (1 ≤ h) × (h ≤ 1024) → (1 ≤ k) × (k ≤ 128) → AcceptedJob (emptyJob (boardOf h k))
 empty-accepted h k a b =
     record {
       board-range = record { rows-range = a; tracks-range = b };
@@ -202,7 +202,7 @@ step-gives k s (Is.Rows h) g =
 step-gives k s (Is.Tracks t) g =
     sized-gives k s _ g (λ h r.
     unless-gives _ _ _ (λ e.
-    go-gives (filled (emptyBoard (boardOf h t))) (empty-accepted h t r (omega (arith, within-is _ _ t .0 e)))))
+    go-gives (filled (emptyJob (boardOf h t))) (empty-accepted h t r (omega (arith, within-is _ _ t .0 e)))))
 step-gives k s (Is.Net i l r lo hi) g = filled-gives k s _ g (λ j a. net-gives k j (netOf i l r lo hi) a)
 step-gives k s (Is.Block t a b) g = filled-gives k s _ g (λ j c. block-gives k j (blockOf t a b) c)
 step-gives k s Is.Close g = filled-gives k s _ g (λ j a. go-gives (closed j) a)

@@ -11,7 +11,7 @@ use Rattle.jobfile.specs.declared.Form.{Form}
 use Rattle.jobfile.specs.declared.Form.the-variants as Is
 use Rattle.jobfile.specs.declared.Outcome.{Outcome}
 use Rattle.jobfile.specs.declared.Outcome.the-variants.{NotOfForm, OutOfRange}
-use Rattle.jobfile.specs.Read.{State, start, opened, sized, filled, closed, Next, go, stop, unless, atStart, atOpened, atSized, atFilled, within, netOf, blockOf, boardOf, emptyBoard, addNet, addBlock, step}
+use Rattle.jobfile.specs.Read.{State, start, opened, sized, filled, closed, Next, go, stop, unless, atStart, atOpened, atSized, atFilled, within, netOf, blockOf, boardOf, emptyJob, addNet, addBlock, step}
 use Rattle.jobfile.specs.Answers.{numberOf, lineOf, noJob}
 use Rattle.jobfile.specs.Faults.{withForm, jobIn, net, block, Ordered, MayFollow, NetFault, BlockFault, LineFault, not-of-form, rows-range, tracks-range, of-net, of-block}
 use Rattle.jobfile.proofs.Tests.{denied, within-is}
@@ -123,13 +123,13 @@ module _ (above : List Form) (k : ℕ) where
       (rows-only h r)
 
   tracks-line : (t h : ℕ) → LinesReach (sized h) above →
-      LineJudged (Is.Tracks t) (unless (within 1 128 t) (OutOfRange k) (go (filled (emptyBoard (boardOf h t)))))
+      LineJudged (Is.Tracks t) (unless (within 1 128 t) (OutOfRange k) (go (filled (emptyJob (boardOf h t)))))
   unfolding withForm
   tracks-line t h r =
       let f = Is.Tracks t in
       let a : Ordered [] (above ++ (f ∷ [])) =
       record { rows = h; tracks = t; items = []; lines-are = lines-more above f refl ∙ (rw (r .0)); items-are = tt } in
-      tested-judged (LineFault above k f) (λ s. LinesReach s (above ++ (f ∷ []))) (filled (emptyBoard (boardOf h t)))
+      tested-judged (LineFault above k f) (λ s. LinesReach s (above ++ (f ∷ []))) (filled (emptyJob (boardOf h t)))
       (a, job-more noJob above f ∙ (rw (r .1)))
       (test (within 1 128 t) (OutOfRange k) ∷ []) (tt, tt)
       (record { fails = λ e. tracks-range (denied _ (within-is 1 128 t) e); passes = λ e f. tracks-of-line f (within-is 1 128 t .0 e) }, λ e. tt)

@@ -7,7 +7,7 @@ use Rattle.lists.proofs.Cases.{by-test}
 use Rattle.board.specs.Job.{Job}
 use Rattle.jobfile.specs.declared.Form.{Form}
 use Rattle.jobfile.specs.declared.Form.the-variants as Is
-use Rattle.jobfile.specs.Read.{State, start, opened, sized, filled, closed, boardOf, emptyBoard}
+use Rattle.jobfile.specs.Read.{State, start, opened, sized, filled, closed, boardOf, emptyJob}
 use Rattle.jobfile.specs.Answers.{noJob}
 use Rattle.jobfile.specs.Faults.{withForm, jobFrom, jobIn, isBlank, nonBlank, Item, Ordered}
 use Rattle.lists.proofs.Joins.{Each-join, Each-right}
@@ -16,7 +16,7 @@ use Rattle.lists.proofs.Joins.{Each-join, Each-right}
 abbrev pub LinesReach : State → List Form → Type 0
 LinesReach start fs = (nonBlank fs ≡ []) × (jobIn fs ≡ noJob)
 LinesReach opened fs = (nonBlank fs ≡ Is.Board ∷ []) × (jobIn fs ≡ noJob)
-LinesReach (sized h) fs = (nonBlank fs ≡ Is.Board ∷ Is.Rows h ∷ []) × (jobIn fs ≡ emptyBoard (boardOf h 0))
+LinesReach (sized h) fs = (nonBlank fs ≡ Is.Board ∷ Is.Rows h ∷ []) × (jobIn fs ≡ emptyJob (boardOf h 0))
 LinesReach (filled job) fs = Ordered [] fs × (jobIn fs ≡ job)
 LinesReach (closed job) fs = Ordered (Is.Close ∷ []) fs × (jobIn fs ≡ job)
 

@@ -8,7 +8,7 @@ use Rattle.board.specs.Job.{Job}
 use Rattle.board.specs.WorkedBoard.{workedJob}
 use Rattle.text.specs.Bytes.{bytes, lines}
 use Rattle.jobfile.specs.declared.Outcome.the-variants.{NotOfForm, OutOfRange, TooMany, NumberNotAbove, PinUsed, SameRow, NoLength, TooFewRows}
-use Rattle.jobfile.specs.Read.{start, stop, netOf, blockOf, boardOf, emptyBoard, addNet, addBlock, accepted, refused, readFrom, readJob}
+use Rattle.jobfile.specs.Read.{start, stop, netOf, blockOf, boardOf, emptyJob, addNet, addBlock, accepted, refused, readFrom, readJob}
 use Rattle.board.specs.Accepted.{AcceptedJob}
 use Rattle.jobfile.proofs.Accepts.{read-accepted}
 use Rattle.jobfile.proofs.Tests.{read-cases}
@@ -27,8 +27,8 @@ ends-early = (refl, refl, refl, refl, refl, refl)
 
 -- a last line needs no byte 10; blank lines are skipped, before the first form and behind the last too, but counted
 lines-end :
-    (readAs "(board\n(rows 5)\n(tracks 1)\n)" ≡ accepted (emptyBoard (boardOf 5 1))) ×
-    (readAs "\n (board \n  \n( rows 5 )\n(tracks  1)\n ) \n \n" ≡ accepted (emptyBoard (boardOf 5 1))) ×
+    (readAs "(board\n(rows 5)\n(tracks 1)\n)" ≡ accepted (emptyJob (boardOf 5 1))) ×
+    (readAs "\n (board \n  \n( rows 5 )\n(tracks  1)\n ) \n \n" ≡ accepted (emptyJob (boardOf 5 1))) ×
     (readAs "(board\n(rows 5)\n(tracks 1)\n)\n\n)\n" ≡ refused (NotOfForm 6)) ×
     (readAs "(board\n(rows 5)\n(tracks 1)\n)\n(block 1 1 1)\n" ≡ refused (NotOfForm 5))
 unfolding readAs
@@ -54,7 +54,7 @@ one-form = (refl, refl, refl, refl, refl)
 
 -- a number is one to five digits, leading zeros or not, without a sign
 numbers :
-    (readAs "(board\n(rows 00010)\n(tracks 1)\n)\n" ≡ accepted (emptyBoard (boardOf 10 1))) ×
+    (readAs "(board\n(rows 00010)\n(tracks 1)\n)\n" ≡ accepted (emptyJob (boardOf 10 1))) ×
     (readAs "(board\n(rows 000010)\n" ≡ refused (NotOfForm 2)) ×
     (readAs "(board\n(rows +5)\n" ≡ refused (NotOfForm 2)) ×
     (readAs "(board\n(rows 99999)\n" ≡ refused (OutOfRange 2))

@@ -7,7 +7,7 @@ use Rattle.board.specs.Stored.{storedOf}
 use Rattle.jobfile.specs.declared.Answer.{Answer}
 use Rattle.jobfile.specs.declared.Outcome.{Outcome}
 use Rattle.jobfile.specs.declared.Outcome.the-variants.{Accepted, TooLong, NotOfForm, OutOfRange, TooMany, NumberNotAbove, PinUsed, SameRow, NoLength, TooFewRows}
-use Rattle.jobfile.specs.Read.{boardOf, emptyBoard, Read, accepted, refused, readJob}
+use Rattle.jobfile.specs.Read.{boardOf, emptyJob, Read, accepted, refused, readJob}
 
 -- what an outcome says in the document's numbers: the number of the refusal, 0 where nothing is refused; the line that it names, 0 where it
 -- names none
@@ -38,7 +38,7 @@ lineOf o = outcomeValues o .line
 
 -- the job of a refusal: no rows, no tracks, every slot unused
 abbrev pub noJob : Job
-noJob = emptyBoard (boardOf 0 0)
+noJob = emptyJob (boardOf 0 0)
 
 -- what read returns: an accepted job by value, the empty job beside a refusal
 unfoldable pub answerOf : Read → Answer

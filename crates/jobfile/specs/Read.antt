@@ -84,8 +84,8 @@ abbrev pub boardOf : ℕ → ℕ → Board
 boardOf h k = record { rows = h; tracks = k }
 
 -- the job of a board without nets and blocks
-abbrev pub emptyBoard : Board → Job
-emptyBoard board = record { board = board; nets = []; blocks = [] }
+abbrev pub emptyJob : Board → Job
+emptyJob board = record { board = board; nets = []; blocks = [] }
 
 -- the job with one more net
 abbrev pub withNet : Job → Net → Job
@@ -145,7 +145,7 @@ unfoldable pub step : ℕ → State → Form → Next
 step k s Is.Blank = go s
 step k s Is.Board = atStart k s (go opened)
 step k s (Is.Rows h) = atOpened k s (unless (within 1 1024 h) (OutOfRange k) (go (sized h)))
-step k s (Is.Tracks t) = atSized k s (λ h. unless (within 1 128 t) (OutOfRange k) (go (filled (emptyBoard (boardOf h t)))))
+step k s (Is.Tracks t) = atSized k s (λ h. unless (within 1 128 t) (OutOfRange k) (go (filled (emptyJob (boardOf h t)))))
 step k s (Is.Net i l r lo hi) = atFilled k s (addNet k (netOf i l r lo hi))
 step k s (Is.Block t a b) = atFilled k s (addBlock k (blockOf t a b))
 step k s Is.Close = atFilled k s (λ job. go (closed job))

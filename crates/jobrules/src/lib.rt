@@ -15,7 +15,7 @@ ghost use Rattle.lists.specs.Lists.{allOf};
 ghost use Rattle.board.specs.Job.{Job};
 ghost use Rattle.board.specs.Accepted.{BoardInRange};
 ghost use Rattle.board.specs.Stored.{storedOf};
-ghost use Rattle.jobfile.specs.Read.{within, netInRange, blockInRange, pinsFree, boardOf, emptyBoard, addNet, addBlock};
+ghost use Rattle.jobfile.specs.Read.{within, netInRange, blockInRange, pinsFree, boardOf, emptyJob, addNet, addBlock};
 ghost use Rattle.jobfile.specs.Answers.{numberOf, lineOf};
 ghost use Rattle.jobrules.specs.Rules.{outcomeOf, RowsInRange, PinsOf, NetsAbove};
 
@@ -63,7 +63,7 @@ pub fn line_of(outcome: Outcome) -> usize
 
 // A job without nets and blocks.
 pub fn empty_job(rows: usize, tracks: usize) -> StoredJob
-    ensures { λ r. ⌜ r ≡ storedOf (emptyBoard (boardOf rows tracks)) ⌝ }
+    ensures { λ r. ⌜ r ≡ storedOf (emptyJob (boardOf rows tracks)) ⌝ }
 {
     let no_net = Net {
         number: 0,
@@ -115,7 +115,7 @@ fn is_net_in_range(size: Board, net: Net) -> bool
     net.max <= 4095
 }
 
-// Refusal 3 of a block.
+// Refusal 3 of a block: whether its numbers are in their ranges, and A ≤ B.
 fn is_block_in_range(size: Board, block: Block) -> bool
     ensures { λ r. ⌜ r ≡ blockInRange size block ⌝ }
 {

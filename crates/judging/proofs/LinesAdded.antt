@@ -26,14 +26,14 @@ use Rattle.board.specs.Tests.{isOn, isBefore, isLong, isShort, isClear, isReady
 use Rattle.blockmap.specs.Clear.{allUnset}
 use Rattle.candidates.specs.Placed.{indexFrom, Placed}
 use Rattle.candidates.proofs.Eligible.{all-on}
-use Rattle.candidates.proofs.Slots.{clear-same}
+use Rattle.blockmap.proofs.ClearRows.{clear-same}
 use Rattle.drc.specs.Judge.{isSoundPlace, isUnlined}
 use Rattle.drc.specs.Pass.{Summary, isNextWire}
 use Rattle.judging.specs.declared.LinesJudged.{LinesJudged}
 use Rattle.judging.specs.declared.NetFound.{NetFound}
 use Rattle.judging.specs.Judged.{NetLines}
 use Rattle.judging.proofs.Indexes.{index-number, index-none}
-use Rattle.judging.specs.Values.{isNumbered, isAllowed, readyAt, isNextAt, NetIs, MapIs}
+use Rattle.judging.specs.Values.{isNumbered, isAllowed, readyAt, isNextAt, NetIs, MapOf}
 
 -- ---- one more line
 
@@ -173,7 +173,7 @@ module _ (job : Job) (a : AcceptedJob job) where
 
     -- ---- a wire drawn
 
-    pub next-same : (words : List ℕ) (found : NetFound) (j : LinesJudged) (top : ℕ) (s : Shape) → NetIs job found → MapIs job (m .track) words →
+    pub next-same : (words : List ℕ) (found : NetFound) (j : LinesJudged) (top : ℕ) (s : Shape) → NetIs job found → MapOf job (m .track) words →
         j .track ≡ m .track → j .lowest ≡ m .lowest →
         isNextAt (job .board) words stands found j top s ≡ isNextWire job m (some (placementAt (found .net) s top))
     unfolding isNextAt isAllowed isNextWire isSoundPlace isLong isShort isClear covered

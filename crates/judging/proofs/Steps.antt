@@ -25,7 +25,7 @@ use Rattle.drc.specs.Pass.{Summary, addTrack, addWire, addLoose, isNextWire, lo
 use Rattle.judging.specs.declared.LinesJudged.{LinesJudged}
 use Rattle.judging.specs.declared.NetFound.{NetFound}
 use Rattle.judging.specs.Judged.{breachOf, NetLines, KeepsSummary, KeepsState, KeepsStep, JudgedInRange, LineInRange}
-use Rattle.judging.specs.Values.{isNumbered, allLined, isNextAt, firstBreach, brokenOff, closedOf, settledOf, isTrackTurn, isWireTurn, NetIs, MapIs}
+use Rattle.judging.specs.Values.{isNumbered, allLined, isNextAt, firstBreach, brokenOff, closedOf, settledOf, isTrackTurn, isWireTurn, NetIs, MapOf}
 use Rattle.judging.proofs.ValueTests.{closed-here, closed-above, settled-sum, settled-wire, settled-kept, lowest-row, breach-before, breach-still-none, breach-here}
 use Rattle.judging.proofs.Turns.{breach-none, breach-some, canStand, closes-off, settled-off, settled-on}
 use Rattle.judging.proofs.LinedNets.{lined-same}
@@ -346,7 +346,7 @@ module _ (job : Job) (n : ℕ) (line : LineInRange n) (s : Summary) (w : Wire) (
       }
 
   module _ (a : AcceptedJob job) (found : NetFound) (is : NetIs job found) (numbered : found .net .number ≡ w .number) (words stands : List ℕ)
-      (blocks : MapIs job (j .track) words) (begun : 1 ≤ j .track) (top : ℕ) (shape : Shape) where
+      (blocks : MapOf job (j .track) words) (begun : 1 ≤ j .track) (top : ℕ) (shape : Shape) where
     abbrev next : Bool
     next = isNextAt (job .board) words stands found j top shape
 

@@ -8,13 +8,13 @@ use lib.ListN.{length, getD}
 use Rattle.board.specs.declared.Board.{Board}
 use Rattle.board.specs.declared.Net.{Net}
 use Rattle.board.specs.declared.Shape.{Shape}
-use Rattle.board.specs.Job.{Job, blocked}
+use Rattle.board.specs.Job.{Job}
 use Rattle.board.specs.Length.{lengthOf}
 use Rattle.board.specs.Placement.{covered, placementAt, bottom}
 use Rattle.board.specs.Accepted.{BoardInRange, AcceptedNet}
 use Rattle.board.specs.Stored.{noNet}
 use Rattle.board.specs.Tests.{isBefore}
-use Rattle.blockmap.specs.Bits.{isSet}
+pub use Rattle.blockmap.specs.Bits.{MapOf}
 use Rattle.blockmap.specs.Clear.{allUnset}
 use Rattle.candidates.specs.Placed.{indexFrom}
 use Rattle.judging.specs.declared.LinesJudged.{LinesJudged}
@@ -89,7 +89,3 @@ pub record NetFits (board : Board) (found : NetFound) (top : ℕ) (s : Shape) : 
   pub before-range : found .before ≤ 512
   pub from-one : 1 ≤ top
   pub to-last : bottom (placementAt (found .net) s top) ≤ board .rows
-
--- of every row: its bit is set exactly if it is blocked on track t
-abbrev pub MapIs : Job → ℕ → List ℕ → Type 0
-MapIs job t words = (row : ℕ) → isSet words row ≡ blocked job t row

@@ -19,8 +19,8 @@ use Rattle.keywords.specs.declared.Vocabulary.the-variants.{Layout}
 use Rattle.layout.specs.ReadBack.{readLine}
 use Rattle.layoutforms.specs.Exact.{shutText, beginsWith, leadingZero, exactNumber, numberUpTo, numberAt, spacedAt, openedAt, pointFrom, pointBehind, pointAt, isPoints}
 use Rattle.layoutforms.specs.ExactForm.{looseForm, wireForm, sumForm, trackForm, formBehind, innerForm, exactForm}
-use Rattle.layoutforms.specs.declared.LayoutNumber.the-variants.{Value, Missing}
-use Rattle.layoutforms.specs.declared.LayoutPoint.the-variants.{Stands, Absent}
+use Rattle.layoutforms.specs.declared.parts.LayoutNumber.the-variants.{Value, Missing}
+use Rattle.layoutforms.specs.declared.parts.LayoutPoint.the-variants.{Stands, Absent}
 use Rattle.layoutforms.specs.declared.LayoutForm.the-variants.{Opening, Track, Wire, Loose, Closing, Other}
 use Rattle.layoutforms.specs.LayoutForms.{layoutFormOf}
 use Rattle.layoutforms.proofs.ExactForms.{exact-form}

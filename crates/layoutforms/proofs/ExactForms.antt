@@ -27,8 +27,8 @@ use Rattle.layout.proofs.RoundTrip.{read-line, read-line-sound}
 use Rattle.layoutforms.specs.LayoutForms.{lineForm, layoutFormOf}
 use Rattle.layoutforms.specs.Exact.{shutText, beginsWith, spacedAt, isPoints}
 use Rattle.layoutforms.specs.ExactForm.{looseForm, wireForm, sumForm, trackForm, formBehind, innerForm, exactForm}
-use Rattle.layoutforms.specs.declared.LayoutNumber.{LayoutNumber}
-use Rattle.layoutforms.specs.declared.LayoutNumber.the-variants.{Value, Missing}
+use Rattle.layoutforms.specs.declared.parts.LayoutNumber.{LayoutNumber}
+use Rattle.layoutforms.specs.declared.parts.LayoutNumber.the-variants.{Value, Missing}
 use Rattle.layoutforms.specs.declared.LayoutForm.{LayoutForm}
 use Rattle.layoutforms.specs.declared.LayoutForm.the-variants.{Wire as WireForm, Other}
 use Rattle.layoutforms.proofs.NumbersRead.{byte-read, NumberRead, spaced-read, spaced-there}

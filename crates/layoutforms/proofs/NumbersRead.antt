@@ -21,8 +21,8 @@ use Rattle.lines.specs.Places.{until, scan}
 use Rattle.lines.proofs.Scans.{until-le}
 use Rattle.layout.proofs.RoundTrip.{only-some, digits-inner}
 use Rattle.layoutforms.specs.Exact.{beginsWith, leadingZero, exactNumber, numberUpTo, numberAt, spacedAt, openedAt}
-use Rattle.layoutforms.specs.declared.LayoutNumber.{LayoutNumber}
-use Rattle.layoutforms.specs.declared.LayoutNumber.the-variants.{Value, Missing}
+use Rattle.layoutforms.specs.declared.parts.LayoutNumber.{LayoutNumber}
+use Rattle.layoutforms.specs.declared.parts.LayoutNumber.the-variants.{Value, Missing}
 
 -- ---- a byte at a place
 

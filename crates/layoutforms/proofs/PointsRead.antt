@@ -17,9 +17,9 @@ use Rattle.layout.specs.LayoutText.{pointsThen}
 use Rattle.layout.specs.ReadBack.{wordsIn, pointsOf, isSmall, smallPoints}
 use Rattle.layout.proofs.RoundTrip.{words-point, points-read}
 use Rattle.layoutforms.specs.Exact.{shutText, beginsWith, spacedAt, openedAt, pointFrom, pointBehind, pointAt, pointsIn, isPoints}
-use Rattle.layoutforms.specs.declared.LayoutNumber.{LayoutNumber}
-use Rattle.layoutforms.specs.declared.LayoutNumber.the-variants.{Value, Missing}
-use Rattle.layoutforms.specs.declared.LayoutPoint.the-variants.{Stands, Absent}
+use Rattle.layoutforms.specs.declared.parts.LayoutNumber.{LayoutNumber}
+use Rattle.layoutforms.specs.declared.parts.LayoutNumber.the-variants.{Value, Missing}
+use Rattle.layoutforms.specs.declared.parts.LayoutPoint.the-variants.{Stands, Absent}
 use Rattle.layoutforms.proofs.NumbersRead.{byte-read, byte-begins, NumberRead, spaced-read, opened-read, spaced-there, opened-there}
 
 -- ---- one point

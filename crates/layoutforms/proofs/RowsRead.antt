@@ -18,8 +18,8 @@ use Rattle.layout.specs.LayoutText.{pointsThen, lineText}
 use Rattle.layout.specs.ReadBack.{isSmall, smallPoints, smallLine}
 use Rattle.layout.specs.Drawn.{firstIn, lastIn}
 use Rattle.layout.proofs.RoundTrip.{points-read, read-line-sound, digits-inner}
-use Rattle.layoutforms.specs.declared.ColumnRows.{ColumnRows}
-use Rattle.layoutforms.specs.declared.LayoutPoint.the-variants.{Stands, Absent}
+use Rattle.layoutforms.specs.declared.rows.ColumnRows.{ColumnRows}
+use Rattle.layoutforms.specs.declared.parts.LayoutPoint.the-variants.{Stands, Absent}
 use Rattle.layoutforms.specs.Exact.{shutText, pointAt, pointsIn, isPoints}
 use Rattle.layoutforms.specs.Rows.{noPoint, rowsFrom, rowsIn, withPoint, withPoints, PointRows, RowsOf}
 use Rattle.layoutforms.proofs.NumbersRead.{until-then}

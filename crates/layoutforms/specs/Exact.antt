@@ -11,10 +11,10 @@ use Rattle.lines.specs.Places.{scan}
 use Rattle.layout.specs.declared.Point.{Point}
 use Rattle.layout.specs.LayoutText.{pointsThen}
 use Rattle.layout.specs.ReadBack.{wordsIn, pointsOf, smallPoints}
-use Rattle.layoutforms.specs.declared.LayoutNumber.{LayoutNumber}
-use Rattle.layoutforms.specs.declared.LayoutNumber.the-variants.{Value, Missing}
-use Rattle.layoutforms.specs.declared.LayoutPoint.{LayoutPoint}
-use Rattle.layoutforms.specs.declared.LayoutPoint.the-variants.{Stands, Absent}
+use Rattle.layoutforms.specs.declared.parts.LayoutNumber.{LayoutNumber}
+use Rattle.layoutforms.specs.declared.parts.LayoutNumber.the-variants.{Value, Missing}
+use Rattle.layoutforms.specs.declared.parts.LayoutPoint.{LayoutPoint}
+use Rattle.layoutforms.specs.declared.parts.LayoutPoint.the-variants.{Stands, Absent}
 
 -- the closing bracket as a text
 abbrev pub shutText : List ℕ

@@ -9,8 +9,8 @@ use Rattle.keywords.specs.Keywords.{wordOf, findWord}
 use Rattle.keywords.specs.declared.Vocabulary.the-variants.{Layout}
 use Rattle.lines.specs.Places.{scan}
 use Rattle.layoutforms.specs.Exact.{shutText, beginsWith, spacedAt, isPoints}
-use Rattle.layoutforms.specs.declared.LayoutNumber.{LayoutNumber}
-use Rattle.layoutforms.specs.declared.LayoutNumber.the-variants.{Value, Missing}
+use Rattle.layoutforms.specs.declared.parts.LayoutNumber.{LayoutNumber}
+use Rattle.layoutforms.specs.declared.parts.LayoutNumber.the-variants.{Value, Missing}
 use Rattle.layoutforms.specs.declared.LayoutForm.{LayoutForm}
 use Rattle.layoutforms.specs.declared.LayoutForm.the-variants.{Opening, Track, Wire, Loose, Closing, Other}
 

@@ -10,7 +10,7 @@ use Rattle.layout.specs.Tree.{Wire, wire}
 use Rattle.layout.specs.ReadBack.{readLine}
 use Rattle.layout.specs.Drawn.{firstIn, lastIn}
 use Rattle.layoutforms.specs.Exact.{pointsIn, isPoints}
-use Rattle.layoutforms.specs.declared.ColumnRows.{ColumnRows}
+use Rattle.layoutforms.specs.declared.rows.ColumnRows.{ColumnRows}
 
 -- no point in the column
 abbrev pub noPoint : ColumnRows

@@ -45,13 +45,13 @@ pub record FoundFits (board : Board) (found : NetFound) : Type 0 where
   pub before-range : IsFound found → found .before ≤ 512
 
 -- s is the line of a wire, of the net found if one was found
-pub record WireOf (found : NetFound) (s : List ℕ) : Type 0 where
+pub record LineOfWire (found : NetFound) (s : List ℕ) : Type 0 where
   pub line : Wire
   pub read : readLine s ≡ some (wire line)
   pub number-is : IsFound found → line .number ≡ found .net .number
 
 -- s is a line of the form, of the net found if one was found
-pub record FormOf (found : NetFound) (form : LayoutForm) (s : List ℕ) : Type 0 where
+pub record LineOfForm (found : NetFound) (form : LayoutForm) (s : List ℕ) : Type 0 where
   pub line : Option Line
   pub line-is : LineIs s line form
   pub number-is : IsFound found → formNumber form ≡ found .net .number

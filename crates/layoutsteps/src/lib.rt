@@ -18,9 +18,9 @@ ghost use Rattle.layout.specs.Tree.{Wire, Line, wire};
 ghost use Rattle.layout.specs.ReadBack.{readLine};
 ghost use Rattle.drc.specs.Pass.{PassState, passLine, passStep};
 ghost use Rattle.judging.specs.Judged.{KeepsState, KeepsStep, JudgedInRange, LineInRange};
-ghost use Rattle.judging.specs.Values.{MapIs};
+ghost use Rattle.judging.specs.Values.{MapOf};
 ghost use Rattle.layoutsteps.specs.LayoutSteps.{layoutStep, formNumber, LineIs};
-ghost use Rattle.layoutsteps.specs.Found.{SlotFor, FoundFits, WireOf, FormOf, FoundFor};
+ghost use Rattle.layoutsteps.specs.Found.{SlotFor, FoundFits, LineOfWire, LineOfForm, FoundFor};
 
 // What stands at a place of a layout text: the form of the line there, its first byte and the one after its last, and the place behind
 // it; or nothing more.
@@ -88,7 +88,7 @@ pub fn find_slot<'a>(
     requires { ⌜ count ≤ 512 ⌝ }
     ensures { λ r. ⌜ SlotFor (now (numbers .entry)) (now (before .entry)) count (formNumber form) r ⌝ }
 {
-    let index = judging::net_index(numbers, count, form_number(form));
+    let index = judging::nets::net_index(numbers, count, form_number(form));
     let slot = slot_of(index);
     NetSlot {
         index,
@@ -108,7 +108,7 @@ pub fn net_found(at: NetSlot, net: Net) -> NetFound
     }
 }
 
-// A wire line, where `found` is the net of its number, with index 512 if there is none.
+// What a wire line leads to, where `found` is the net of its number, with index 512 if there is none.
 fn take_wire(
     board: Board,
     found: NetFound,
@@ -121,26 +121,26 @@ fn take_wire(
     requires { ⌜ LineInRange line ⌝ }
     requires { ⌜ JudgedInRange (line - 1) m ⌝ }
     requires { ⌜ FoundFits board found ⌝ }
-    requires { ⌜ WireOf found (now s) ⌝ }
-    ensures { λ r. ⌜ ((job : Job) (st : PassState) (w : Wire) → AcceptedJob job → job .board ≡ board → FoundFor job (w .number) found → readLine (now (s .entry)) ≡ some (wire w) → MapIs job (m .track) (now (words .entry)) → KeepsState job st m (now (stands .entry)) → KeepsStep job (passLine job line st (wire w)) r (now (stands .exit))) ⌝ }
+    requires { ⌜ LineOfWire found (now s) ⌝ }
+    ensures { λ r. ⌜ ((job : Job) (st : PassState) (w : Wire) → AcceptedJob job → job .board ≡ board → FoundFor job (w .number) found → readLine (now (s .entry)) ≡ some (wire w) → MapOf job (m .track) (now (words .entry)) → KeepsState job st m (now (stands .entry)) → KeepsStep job (passLine job line st (wire w)) r (now (stands .exit))) ⌝ }
     ensures { λ r. ⌜ (JudgedInRange line r) ⌝ }
 {
     if !judging::is_wire_turn(board.tracks, m) {
         return judging::closed(m, line);
     }
     if found.index == 512 {
-        return judging::add_undrawn(m, line, 0);
+        return judging::wires::add_undrawn(m, line, 0);
     }
     let net = found.net;
     match drawnwires::drawn_place(board, net, Track(m.track), s) {
-        DrawnPlace::Nothing => judging::add_undrawn(m, line, board::worth(board, net)),
+        DrawnPlace::Nothing => judging::wires::add_undrawn(m, line, board::worth(board, net)),
         DrawnPlace::At { top, shape } => {
-            judging::add_drawn(board, found, words, stands, m, line, top, shape)
+            judging::wires::add_drawn(board, found, words, stands, m, line, top, shape)
         }
     }
 }
 
-// A line of a form, of a job with so many nets.
+// What a line of any form leads to, where the job has `count` nets and s is the line, without its byte 10.
 pub fn take_line(
     board: Board,
     count: usize,
@@ -155,8 +155,8 @@ pub fn take_line(
     requires { ⌜ LineInRange line ⌝ }
     requires { ⌜ JudgedInRange (line - 1) m ⌝ }
     requires { ⌜ FoundFits board found ⌝ }
-    requires { ⌜ (count ≤ 512) × FormOf found form (now s) ⌝ }
-    ensures { λ r. ⌜ ((job : Job) (st : PassState) (x : Option Line) → AcceptedJob job → job .board ≡ board → length (job .nets) ≡ count → FoundFor job (formNumber form) found → LineIs (now (s .entry)) x form → MapIs job (m .track) (now (words .entry)) → KeepsState job st m (now (stands .entry)) → KeepsStep job (passStep job line st x) r (now (stands .exit))) ⌝ }
+    requires { ⌜ (count ≤ 512) × LineOfForm found form (now s) ⌝ }
+    ensures { λ r. ⌜ ((job : Job) (st : PassState) (x : Option Line) → AcceptedJob job → job .board ≡ board → length (job .nets) ≡ count → FoundFor job (formNumber form) found → LineIs (now (s .entry)) x form → MapOf job (m .track) (now (words .entry)) → KeepsState job st m (now (stands .entry)) → KeepsStep job (passStep job line st x) r (now (stands .exit))) ⌝ }
     ensures { λ r. ⌜ (JudgedInRange line r) ⌝ }
 {
     match form {

@@ -1,1 +1,1 @@
-// The choice of one track: definitions in specs/, the packing theorem in proofs/.
+// The choice of one track: definitions in specs/, the packing theorem in proofs/. There is no code here.

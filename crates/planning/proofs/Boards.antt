@@ -1,5 +1,4 @@
--- Plans computed: document 01's worked board, its board of the long net, one without nets, and one where the most rows are not the most nets.
--- Assumes nothing.
+-- Plans computed: document 01's worked board, its board of the long net, and one where the most rows are not the most nets. Assumes nothing.
 use Prim.Native.Nat.{ℕ}
 use mathlib.Core.Path.{_≡_, refl, ap, _∙_}
 use mathlib.Core.List.{List, [], _∷_}
@@ -54,12 +53,6 @@ pub long-plan : planOf (record { board = triedBoard 21; nets = triedNet 23 23 �
     record { sum = 12; wires = placementAt (triedNet 23 23) (Stretched 7) 10 ∷ [] } ∷ []
 unfolding planned
 long-plan = refl
-
--- no nets: all sums 0
-pub empty-plan : planOf (record { board = record { rows = 21; tracks = 3 }; nets = []; blocks = [] }) ≡
-    record { sum = 0; wires = [] } ∷ record { sum = 0; wires = [] } ∷ record { sum = 0; wires = [] } ∷ []
-unfolding planned
-empty-plan = refl
 
 -- net k from row l to row r, of any length
 abbrev netFrom : ℕ → ℕ → ℕ → Net

@@ -22,6 +22,6 @@ pub fn print_route(job: &[u8]) -> Printed
         return Printed { bytes, used };
     }
     let line = router::answer_line(answer);
-    let used = reader::put_refusal(&mut bytes, number, line);
+    let used = reader::report::put_refusal(&mut bytes, number, line);
     Printed { bytes, used }
 }

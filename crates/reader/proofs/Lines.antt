@@ -15,14 +15,14 @@ use Rattle.jobfile.specs.declared.Form.{Form}
 use Rattle.jobfile.specs.declared.Form.the-variants as Is
 use Rattle.jobfile.specs.declared.Outcome.{Outcome}
 use Rattle.jobfile.specs.declared.Outcome.the-variants.{Accepted, NotOfForm, OutOfRange}
-use Rattle.jobfile.specs.Read.{State, Next, go, stop, sized, filled, unless, within, atStart, atOpened, atSized, atFilled, netOf, blockOf, boardOf, emptyBoard, addNet, addBlock, step}
+use Rattle.jobfile.specs.Read.{State, Next, go, stop, sized, filled, unless, within, atStart, atOpened, atSized, atFilled, netOf, blockOf, boardOf, emptyJob, addNet, addBlock, step}
 use Rattle.jobfile.specs.Answers.{numberOf}
 use Rattle.jobrules.specs.Rules.{outcomeOf, NetsAbove}
 use Rattle.jobrules.proofs.Outcomes.{Passes}
-use Rattle.reader.specs.LinesAbove.{mayStand, entryOf, stateOf, Filled, Held, AboveOf}
-use Rattle.reader.specs.declared.LinesAbove.{LinesAbove}
+use Rattle.reader.specs.LinesAbove.{formStands, entryOf, stateOf, Filled, Held, AboveOf}
+use Rattle.reader.specs.declared.lines_above.LinesAbove.{LinesAbove}
 use Rattle.reader.proofs.Slots.{nets-used}
-use Rattle.reader.specs.declared.Entry.the-variants.{OfNet, OfBlock}
+use Rattle.reader.specs.declared.lines_above.Entry.the-variants.{OfNet, OfBlock}
 
 -- a form out of its place
 
@@ -58,9 +58,9 @@ no-filled k (suc (suc zero)) job f e = refl
 no-filled k (suc (suc (suc zero))) job f e = absurd (true≢false e)
 no-filled k (suc (suc (suc (suc stage)))) job f e = refl
 
-pub wrong-place : (k stage : ℕ) (job : StoredJob) (form : Form) → mayStand stage form ≡ false →
+pub wrong-place : (k stage : ℕ) (job : StoredJob) (form : Form) → formStands stage form ≡ false →
     stop (NotOfForm k) ≡ step k (stateOf stage job) form
-unfolding mayStand step
+unfolding formStands step
 wrong-place k stage job Is.Blank e = absurd (true≢false e)
 wrong-place k stage job Is.Board e = no-start k stage job _ e
 wrong-place k stage job (Is.Rows h) e = no-opened k stage job _ e
@@ -73,54 +73,54 @@ wrong-place k stage job Is.Other e = refl
 -- a form in its place
 
 module _ (k stage : ℕ) (job : StoredJob) (form : Form) where
-  at-stage : (here : ℕ) → mayStand stage form ≡ eqb stage here → mayStand stage form ≡ true → stage ≡ here
+  at-stage : (here : ℕ) → formStands stage form ≡ eqb stage here → formStands stage form ≡ true → stage ≡ here
   at-stage here e t = eqb-true stage here (sym e ∙ t)
 
-  pub rows-place : (h : ℕ) → form ≡ Is.Rows h → mayStand stage form ≡ true →
+  pub rows-place : (h : ℕ) → form ≡ Is.Rows h → formStands stage form ≡ true →
       unless (within 1 1024 h) (OutOfRange k) (go (sized h)) ≡ step k (stateOf stage job) form
-  unfolding mayStand step stateOf atOpened
-  rows-place h e t = let s : stage ≡ 1 = at-stage 1 (ap (mayStand stage) e) t in rw (e, s)
+  unfolding formStands step stateOf atOpened
+  rows-place h e t = let s : stage ≡ 1 = at-stage 1 (ap (formStands stage) e) t in rw (e, s)
 
-  pub tracks-place : (t : ℕ) → form ≡ Is.Tracks t → mayStand stage form ≡ true →
-      unless (within 1 128 t) (OutOfRange k) (go (filled (emptyBoard (boardOf (job .board .rows) t)))) ≡ step k (stateOf stage job) form
-  unfolding mayStand step stateOf atSized
-  tracks-place t e p = let s : stage ≡ 2 = at-stage 2 (ap (mayStand stage) e) p in rw (e, s)
+  pub tracks-place : (t : ℕ) → form ≡ Is.Tracks t → formStands stage form ≡ true →
+      unless (within 1 128 t) (OutOfRange k) (go (filled (emptyJob (boardOf (job .board .rows) t)))) ≡ step k (stateOf stage job) form
+  unfolding formStands step stateOf atSized
+  tracks-place t e p = let s : stage ≡ 2 = at-stage 2 (ap (formStands stage) e) p in rw (e, s)
 
-  pub net-place : (i l r lo hi : ℕ) → form ≡ Is.Net i l r lo hi → mayStand stage form ≡ true →
+  pub net-place : (i l r lo hi : ℕ) → form ≡ Is.Net i l r lo hi → formStands stage form ≡ true →
       addNet k (netOf i l r lo hi) (jobOf job) ≡ step k (stateOf stage job) form
-  unfolding mayStand step stateOf atFilled
-  net-place i l r lo hi e p = let s : stage ≡ 3 = at-stage 3 (ap (mayStand stage) e) p in rw (e, s)
+  unfolding formStands step stateOf atFilled
+  net-place i l r lo hi e p = let s : stage ≡ 3 = at-stage 3 (ap (formStands stage) e) p in rw (e, s)
 
-  pub block-place : (t a b : ℕ) → form ≡ Is.Block t a b → mayStand stage form ≡ true →
+  pub block-place : (t a b : ℕ) → form ≡ Is.Block t a b → formStands stage form ≡ true →
       addBlock k (blockOf t a b) (jobOf job) ≡ step k (stateOf stage job) form
-  unfolding mayStand step stateOf atFilled
-  block-place t a b e p = let s : stage ≡ 3 = at-stage 3 (ap (mayStand stage) e) p in rw (e, s)
+  unfolding formStands step stateOf atFilled
+  block-place t a b e p = let s : stage ≡ 3 = at-stage 3 (ap (formStands stage) e) p in rw (e, s)
 
   module _ (held : Held stage job) where
     -- nets and blocks come to a job with its size
     filled-here : stage ≡ 3 → Filled job
     filled-here s = rw s at (held .ranges)
 
-    pub net-filled : (i l r lo hi : ℕ) → form ≡ Is.Net i l r lo hi → mayStand stage form ≡ true → Filled job
-    unfolding mayStand
-    net-filled i l r lo hi e p = filled-here (at-stage 3 (ap (mayStand stage) e) p)
+    pub net-filled : (i l r lo hi : ℕ) → form ≡ Is.Net i l r lo hi → formStands stage form ≡ true → Filled job
+    unfolding formStands
+    net-filled i l r lo hi e p = filled-here (at-stage 3 (ap (formStands stage) e) p)
 
-    pub block-filled : (t a b : ℕ) → form ≡ Is.Block t a b → mayStand stage form ≡ true → Filled job
-    unfolding mayStand
-    block-filled t a b e p = filled-here (at-stage 3 (ap (mayStand stage) e) p)
+    pub block-filled : (t a b : ℕ) → form ≡ Is.Block t a b → formStands stage form ≡ true → Filled job
+    unfolding formStands
+    block-filled t a b e p = filled-here (at-stage 3 (ap (formStands stage) e) p)
 
   -- a line that is refused for nothing
   pub blank-line : form ≡ Is.Blank → Accepted ≡ outcomeOf (step k (stateOf stage job) form)
   unfolding step outcomeOf
   blank-line e = rw e
 
-  pub board-line : form ≡ Is.Board → mayStand stage form ≡ true → Accepted ≡ outcomeOf (step k (stateOf stage job) form)
-  unfolding mayStand step stateOf atStart outcomeOf
-  board-line e p = let s : stage ≡ 0 = at-stage 0 (ap (mayStand stage) e) p in rw (e, s)
+  pub board-line : form ≡ Is.Board → formStands stage form ≡ true → Accepted ≡ outcomeOf (step k (stateOf stage job) form)
+  unfolding formStands step stateOf atStart outcomeOf
+  board-line e p = let s : stage ≡ 0 = at-stage 0 (ap (formStands stage) e) p in rw (e, s)
 
-  pub close-line : form ≡ Is.Close → mayStand stage form ≡ true → Accepted ≡ outcomeOf (step k (stateOf stage job) form)
-  unfolding mayStand step stateOf atFilled outcomeOf
-  close-line e p = let s : stage ≡ 3 = at-stage 3 (ap (mayStand stage) e) p in rw (e, s)
+  pub close-line : form ≡ Is.Close → formStands stage form ≡ true → Accepted ≡ outcomeOf (step k (stateOf stage job) form)
+  unfolding formStands step stateOf atFilled outcomeOf
+  close-line e p = let s : stage ≡ 3 = at-stage 3 (ap (formStands stage) e) p in rw (e, s)
 
   pub other-line : form ≡ Is.Other → NotOfForm k ≡ outcomeOf (step k (stateOf stage job) form)
   unfolding step outcomeOf
@@ -136,9 +136,9 @@ unfolding unless outcomeOf
 size-passed passed o s e = rw e
 
 -- a net stands behind `(tracks K)`
-pub net-stage : (stage : ℕ) (form : Form) (i l r lo hi : ℕ) → form ≡ Is.Net i l r lo hi → mayStand stage form ≡ true → stage ≡ 3
-unfolding mayStand
-net-stage stage form i l r lo hi e t = eqb-true stage 3 (sym (ap (mayStand stage) e) ∙ t)
+pub net-stage : (stage : ℕ) (form : Form) (i l r lo hi : ℕ) → form ≡ Is.Net i l r lo hi → formStands stage form ≡ true → stage ≡ 3
+unfolding formStands
+net-stage stage form i l r lo hi e t = eqb-true stage 3 (sym (ap (formStands stage) e) ∙ t)
 
 -- what is held of the nets above a line
 pub nets-above : (a : LinesAbove) (job : StoredJob) → AboveOf a job → Filled job → NetsAbove (jobOf job) (a .board) (a .nnets) (a .last) (a .used)
@@ -146,16 +146,16 @@ nets-above a job h f =
     record { size-is = h .board-is; count-is = nets-used job f ∙ h .nnets-is; last-is = h .nets-are .last-is; pins = h .nets-are .pins }
 
 -- a line that is not refused stands in its place
-pub stands : (k stage : ℕ) (job : StoredJob) (form : Form) → Passes (step k (stateOf stage job) form) → mayStand stage form ≡ true
+pub stands : (k stage : ℕ) (job : StoredJob) (form : Form) → Passes (step k (stateOf stage job) form) → formStands stage form ≡ true
 unfolding outcomeOf
 stands k stage job form p =
-    by-test (mayStand stage form) (λ e. e) (λ e. absurd (omega (arith, ap (λ (x : Next). numberOf (outcomeOf x)) (wrong-place k stage job form e))))
+    by-test (formStands stage form) (λ e. e) (λ e. absurd (omega (arith, ap (λ (x : Next). numberOf (outcomeOf x)) (wrong-place k stage job form e))))
 
 -- a line that gives a net or a block
 module _ (k stage : ℕ) (job : StoredJob) where
-  pub net-line : (form : Form) (n : Net) → OfNet n ≡ entryOf form → mayStand stage form ≡ true →
+  pub net-line : (form : Form) (n : Net) → OfNet n ≡ entryOf form → formStands stage form ≡ true →
       (stage ≡ 3) × (step k (stateOf stage job) form ≡ addNet k n (jobOf job))
-  unfolding entryOf mayStand step stateOf atFilled
+  unfolding entryOf formStands step stateOf atFilled
   net-line Is.Blank n e t = let z : _≡_ {A = ℕ} 0 1 = cc in absurd (omega arith)
   net-line Is.Board n e t = let z : _≡_ {A = ℕ} 0 1 = cc in absurd (omega arith)
   net-line (Is.Rows h) n e t = let z : _≡_ {A = ℕ} 0 1 = cc in absurd (omega arith)
@@ -168,9 +168,9 @@ module _ (k stage : ℕ) (job : StoredJob) where
   net-line Is.Close n e t = let z : _≡_ {A = ℕ} 0 1 = cc in absurd (omega arith)
   net-line Is.Other n e t = let z : _≡_ {A = ℕ} 0 1 = cc in absurd (omega arith)
 
-  pub block-line : (form : Form) (b : Block) → OfBlock b ≡ entryOf form → mayStand stage form ≡ true →
+  pub block-line : (form : Form) (b : Block) → OfBlock b ≡ entryOf form → formStands stage form ≡ true →
       (stage ≡ 3) × (step k (stateOf stage job) form ≡ addBlock k b (jobOf job))
-  unfolding entryOf mayStand step stateOf atFilled
+  unfolding entryOf formStands step stateOf atFilled
   block-line Is.Blank b e t = let z : _≡_ {A = ℕ} 0 1 = cc in absurd (omega arith)
   block-line Is.Board b e t = let z : _≡_ {A = ℕ} 0 1 = cc in absurd (omega arith)
   block-line (Is.Rows h) b e t = let z : _≡_ {A = ℕ} 0 1 = cc in absurd (omega arith)

@@ -27,10 +27,10 @@ use Rattle.jobrules.specs.Rules.{outcomeOf, RowsInRange}
 use Rattle.jobrules.proofs.Outcomes.{Passes}
 use Rattle.reader.specs.Cursors.{formOn, formStep}
 use Rattle.reader.specs.LinesAbove.{entryOf, headAfter, stateOf, stageOf, valueOf, Filled, Held, jobAbove, PinsAbove, NothingAbove, AboveOf, NetAfter}
-use Rattle.reader.specs.declared.Cursor.{Cursor}
-use Rattle.reader.specs.declared.FormStep.the-variants as At
-use Rattle.reader.specs.declared.LinesAbove.{LinesAbove}
-use Rattle.reader.specs.declared.Entry.the-variants.{OfNet, OfBlock, Nothing}
+use Rattle.reader.specs.declared.cursor.Cursor.{Cursor}
+use Rattle.reader.specs.declared.cursor.FormStep.the-variants as At
+use Rattle.reader.specs.declared.lines_above.LinesAbove.{LinesAbove}
+use Rattle.reader.specs.declared.lines_above.Entry.the-variants.{OfNet, OfBlock, Nothing}
 use Rattle.reader.proofs.States.{SizedState, LeadsOn, state-back, held-of, held-good, step-sound}
 use Rattle.reader.proofs.Taken.{GoesOn, head-on, head-nets, net-room, net-rows, net-on, net-nets, block-room, block-on, block-nets}
 

@@ -17,7 +17,7 @@ use Rattle.jobfile.specs.declared.Form.{Form}
 use Rattle.jobfile.specs.declared.Form.the-variants as Is
 use Rattle.jobfile.specs.declared.Outcome.{Outcome}
 use Rattle.jobfile.specs.declared.Outcome.the-variants.{NotOfForm}
-use Rattle.jobfile.specs.Read.{State, start, opened, sized, filled, closed, Next, go, stop, unless, atStart, atOpened, atSized, atFilled, netOf, blockOf, boardOf, emptyBoard, addNet, addBlock, step}
+use Rattle.jobfile.specs.Read.{State, start, opened, sized, filled, closed, Next, go, stop, unless, atStart, atOpened, atSized, atFilled, netOf, blockOf, boardOf, emptyJob, addNet, addBlock, step}
 use Rattle.jobfile.specs.Answers.{numberOf, lineOf}
 use Rattle.jobfile.proofs.Tests.{within-is}
 use Rattle.board.proofs.StoredJobs.{job-back}
@@ -160,7 +160,7 @@ filled-sound k (sized h) f a g = not-form k
 filled-sound k (filled j) f a g = g j a
 filled-sound k (closed j) f a g = not-form k
 
-empty-sized : (h t : ℕ) → (1 ≤ h) × (h ≤ 1024) → (1 ≤ t) × (t ≤ 128) → Sized (emptyBoard (boardOf h t))
+empty-sized : (h t : ℕ) → (1 ≤ h) × (h ≤ 1024) → (1 ≤ t) × (t ≤ 128) → Sized (emptyJob (boardOf h t))
 empty-sized h t a b =
     record { board-range = record { rows-range = a; tracks-range = b }; nets-count = omega arith; blocks-count = omega arith }
 
@@ -172,7 +172,7 @@ step-sound k s (Is.Rows h) g =
     opened-sound k s _ (unless-sound k _ _ (go (sized h)) (λ z. omega arith) refl (λ e. within-is 1 1024 h .0 e))
 step-sound k s (Is.Tracks t) g =
     sized-sound k s _ g (λ h r.
-    unless-sound k _ _ (go (filled (emptyBoard (boardOf h t)))) (λ z. omega arith) refl (λ e. empty-sized h t r (within-is 1 128 t .0 e)))
+    unless-sound k _ _ (go (filled (emptyJob (boardOf h t)))) (λ z. omega arith) refl (λ e. empty-sized h t r (within-is 1 128 t .0 e)))
 step-sound k s (Is.Net i l r lo hi) g = filled-sound k s _ g (λ j a. net-sound k (netOf i l r lo hi) j a)
 step-sound k s (Is.Block t a b) g = filled-sound k s _ g (λ j c. block-sound k (blockOf t a b) j c)
 step-sound k s Is.Close g = filled-sound k s _ g (λ j a. a)

@@ -13,16 +13,16 @@ use Rattle.board.specs.Stored.{jobOf, storedOf}
 use Rattle.jobfile.specs.declared.Form.{Form}
 use Rattle.jobfile.specs.declared.Form.the-variants as Is
 use Rattle.jobfile.specs.declared.Outcome.the-variants.{OutOfRange}
-use Rattle.jobfile.specs.Read.{State, opened, sized, filled, closed, Next, go, unless, within, atStart, atOpened, atSized, atFilled, boardOf, emptyBoard, withNet, withBlock, addNet, addBlock, step}
+use Rattle.jobfile.specs.Read.{State, opened, sized, filled, closed, Next, go, unless, within, atStart, atOpened, atSized, atFilled, boardOf, emptyJob, withNet, withBlock, addNet, addBlock, step}
 use Rattle.jobfile.specs.Answers.{numberOf}
 use Rattle.board.proofs.StoredJobs.{job-back}
 use Rattle.jobrules.specs.Rules.{outcomeOf, RowsInRange}
 use Rattle.jobrules.proofs.Pins.{rows-in-range}
 use Rattle.jobrules.proofs.Outcomes.{Passes, unless-leads, net-few, net-ranged, net-goes, block-few, block-goes}
 use Rattle.jobfile.proofs.Tests.{net-range-is}
-use Rattle.reader.specs.LinesAbove.{mayStand, entryOf, atStage, headAfter, stateOf, stageOf, valueOf, Filled, Held, jobAbove, PinsAbove, NetAfter}
-use Rattle.reader.specs.declared.LinesAbove.{LinesAbove}
-use Rattle.reader.specs.declared.Entry.the-variants.{OfNet, OfBlock, Nothing}
+use Rattle.reader.specs.LinesAbove.{formStands, entryOf, atStage, headAfter, stateOf, stageOf, valueOf, Filled, Held, jobAbove, PinsAbove, NetAfter}
+use Rattle.reader.specs.declared.lines_above.LinesAbove.{LinesAbove}
+use Rattle.reader.specs.declared.lines_above.Entry.the-variants.{OfNet, OfBlock, Nothing}
 use Rattle.reader.proofs.Slots.{nets-used, blocks-used, net-more, block-more}
 use Rattle.reader.proofs.Lines.{stands, net-line, block-line}
 
@@ -58,7 +58,7 @@ module _ (k : ℕ) (a : LinesAbove) (slots : StoredJob) (h : Held (a .stage) (jo
   unfolding step stateOf atOpened stageOf valueOf storedOf
   rows-on x s p =
       let e : led (Is.Rows x) ≡ unless (within 1 1024 x) (OutOfRange k) (go (sized x)) = rw s in
-      let v : storedOf (emptyBoard (boardOf 0 0)) ≡ jobAbove a slots = rw s at (h .value) in
+      let v : storedOf (emptyJob (boardOf 0 0)) ≡ jobAbove a slots = rw s at (h .value) in
       record {
         state = sized x;
         goes = e ∙ unless-leads _ _ _ _ (λ z. omega arith) (λ q. refl) (passes-as e p);
@@ -70,10 +70,10 @@ module _ (k : ℕ) (a : LinesAbove) (slots : StoredJob) (h : Held (a .stage) (jo
   unfolding step stateOf atSized stageOf valueOf storedOf
   tracks-on x s p =
       let b = boardOf (a .board .rows) x in
-      let e : led (Is.Tracks x) ≡ unless (within 1 128 x) (OutOfRange k) (go (filled (emptyBoard b))) = rw s in
-      let v : storedOf (emptyBoard (boardOf (a .board .rows) 0)) ≡ jobAbove a slots = rw s at (h .value) in
+      let e : led (Is.Tracks x) ≡ unless (within 1 128 x) (OutOfRange k) (go (filled (emptyJob b))) = rw s in
+      let v : storedOf (emptyJob (boardOf (a .board .rows) 0)) ≡ jobAbove a slots = rw s at (h .value) in
       record {
-        state = filled (emptyBoard b);
+        state = filled (emptyJob b);
         goes = e ∙ unless-leads _ _ _ _ (λ z. omega arith) (λ q. refl) (passes-as e p);
         stage-is = refl;
         value-is = ap (λ (w : StoredJob). record { board = b; nnets = w .nnets; nblocks = w .nblocks; nets = w .nets; blocks = w .blocks }) v;
@@ -86,7 +86,7 @@ module _ (k : ℕ) (a : LinesAbove) (slots : StoredJob) (h : Held (a .stage) (jo
       record { state = closed (jobOf (jobAbove a slots)); goes = rw s; stage-is = refl; value-is = f .stored }
 
   pub head-on : (form : Form) → Nothing ≡ entryOf form → Passes (led form) → GoesOn (led form) (headAfter a form .stage) (jobAbove (headAfter a form) slots)
-  unfolding entryOf headAfter mayStand
+  unfolding entryOf headAfter formStands
   head-on Is.Blank e p = blank-on
   head-on Is.Board e p = board-on (eqb-true (a .stage) 0 (stands k (a .stage) (jobAbove a slots) Is.Board p))
   head-on (Is.Rows x) e p = rows-on x (eqb-true (a .stage) 1 (stands k (a .stage) (jobAbove a slots) (Is.Rows x) p)) p

@@ -6,9 +6,9 @@ use Rattle.lines.specs.Places.{stepAt}
 use Rattle.lines.specs.declared.Step.{Step}
 use Rattle.lines.specs.declared.Step.the-variants.{Line, End}
 use Rattle.jobfile.specs.Forms.{readForm}
-use Rattle.reader.specs.declared.Cursor.{Cursor}
-use Rattle.reader.specs.declared.FormStep.{FormStep}
-use Rattle.reader.specs.declared.FormStep.the-variants as At
+use Rattle.reader.specs.declared.cursor.Cursor.{Cursor}
+use Rattle.reader.specs.declared.cursor.FormStep.{FormStep}
+use Rattle.reader.specs.declared.cursor.FormStep.the-variants as At
 
 -- the form of the line that a step passes
 unfoldable pub formOn : List ℕ → Step → FormStep

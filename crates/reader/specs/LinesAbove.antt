@@ -11,23 +11,23 @@ use Rattle.board.specs.Accepted.{BoardInRange}
 use Rattle.board.specs.Stored.{jobOf, storedOf}
 use Rattle.jobfile.specs.declared.Form.{Form}
 use Rattle.jobfile.specs.declared.Form.the-variants as Is
-use Rattle.jobfile.specs.Read.{State, start, opened, sized, filled, closed, lastNumber, netOf, blockOf, boardOf, emptyBoard}
+use Rattle.jobfile.specs.Read.{State, start, opened, sized, filled, closed, lastNumber, netOf, blockOf, boardOf, emptyJob}
 use Rattle.jobfile.specs.Answers.{noJob}
 use Rattle.jobrules.specs.Rules.{PinsOf}
-use Rattle.reader.specs.declared.LinesAbove.{LinesAbove}
-use Rattle.reader.specs.declared.Entry.{Entry}
-use Rattle.reader.specs.declared.Entry.the-variants.{OfNet, OfBlock, Nothing}
+use Rattle.reader.specs.declared.lines_above.LinesAbove.{LinesAbove}
+use Rattle.reader.specs.declared.lines_above.Entry.{Entry}
+use Rattle.reader.specs.declared.lines_above.Entry.the-variants.{OfNet, OfBlock, Nothing}
 
 -- a line of this form may stand at a stage
-unfoldable pub mayStand : ℕ → Form → Bool
-mayStand stage Is.Blank = true
-mayStand stage Is.Board = eqb stage 0
-mayStand stage (Is.Rows h) = eqb stage 1
-mayStand stage (Is.Tracks k) = eqb stage 2
-mayStand stage (Is.Net i l r lo hi) = eqb stage 3
-mayStand stage (Is.Block t a b) = eqb stage 3
-mayStand stage Is.Close = eqb stage 3
-mayStand stage Is.Other = false
+unfoldable pub formStands : ℕ → Form → Bool
+formStands stage Is.Blank = true
+formStands stage Is.Board = eqb stage 0
+formStands stage (Is.Rows h) = eqb stage 1
+formStands stage (Is.Tracks k) = eqb stage 2
+formStands stage (Is.Net i l r lo hi) = eqb stage 3
+formStands stage (Is.Block t a b) = eqb stage 3
+formStands stage Is.Close = eqb stage 3
+formStands stage Is.Other = false
 
 -- the net or the block that a line of this form gives
 unfoldable pub entryOf : Form → Entry
@@ -76,7 +76,7 @@ stageOf (closed job) = 4
 unfoldable pub valueOf : State → StoredJob
 valueOf start = storedOf noJob
 valueOf opened = storedOf noJob
-valueOf (sized h) = storedOf (emptyBoard (boardOf h 0))
+valueOf (sized h) = storedOf (emptyJob (boardOf h 0))
 valueOf (filled job) = storedOf job
 valueOf (closed job) = storedOf job
 

@@ -11,7 +11,7 @@ fn next_reading(s: &[u8], from: usize) -> usize
 {
     let to = texts::text_end(s, from);
     let mut line = [0u8; 32];
-    let used = reader::report(&s[from..to], &mut line);
+    let used = reader::report::report(&s[from..to], &mut line);
     io::write_all(STDOUT_FILENO, &line[..used]);
     to + 1
 }

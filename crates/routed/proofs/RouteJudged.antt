@@ -1,25 +1,19 @@
 -- Demand 2, "passes ours": the verdict on the text that route writes for an accepted job is sound, and none of its lines is broken. Assumes
 -- nothing.
 use Prim.Native.Nat.{ℕ}
-use mathlib.Core.Path.{_≡_, _∙_}
+use mathlib.Core.Path.{_≡_}
 use Rattle.board.specs.Job.{Job}
 use Rattle.board.specs.Accepted.{AcceptedJob}
 use Rattle.routing.specs.Route.{routeText}
 use Rattle.routing.proofs.RouteSound.{route-sound}
 use Rattle.drc.specs.Breach.{Breach}
 use Rattle.drc.specs.Judge.{sound-text, judge}
-use Rattle.drc.specs.Pass.{passOver}
 use Rattle.drc.proofs.FirstBroken.{judge-no-breach}
 use Rattle.drc.proofs.JudgeSound.{sound-judge}
-use Rattle.drc.proofs.OnePass.{one-pass}
 
 module _ (job : Job) (a : AcceptedJob job) where
   pub route-judged : judge job (routeText job) ≡ sound-text
   route-judged = sound-judge job a (routeText job) (route-sound job a)
-
-  -- the same of the pass
-  pub route-passed : passOver job (routeText job) ≡ sound-text
-  route-passed = one-pass job a (routeText job) ∙ route-judged
 
   pub route-unbroken : (l : ℕ) → Breach job (routeText job) l → ⊥
   route-unbroken l b = judge-no-breach job a (routeText job) l route-judged b

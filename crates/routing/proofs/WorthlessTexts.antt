@@ -1,5 +1,5 @@
--- What demands 2 and 3 shut out, on document 01's worked board: for each clause of `OptimalTrack`, `UnbeatenText`, `ShortestWire` and `ShortestText` that
--- decides, a layout that fails it; document 01's "Worthless versions" among them. Assumes nothing.
+-- What demands 2 and 3 shut out, on document 01's worked board: for each clause of `OptimalTrack`, `UnbeatenText`, `ShortestWire` and
+-- `ShortestText` that decides, a layout that fails it; document 01's "Worthless versions" among them. Assumes nothing.
 use Prim.Native.Nat.{ℕ, suc, _<_}
 use mathlib.Core.Path.{_≡_, refl, sym, ap, _∙_}
 use mathlib.Core.Bool.{true}

@@ -1,1 +1,1 @@
-// Sound layouts and unbeaten ones: definitions in specs/, their theorems in proofs/. There is no code here.
+// Sound layouts, and rival sequences and sums of drawn wires: definitions in specs/, their theorems in proofs/. There is no code here.

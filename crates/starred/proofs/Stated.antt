@@ -9,7 +9,7 @@ use Rattle.board.specs.TriedBoards.{triedBoard, triedNet}
 use Rattle.board.proofs.Lengths.{rows-21, rows-20, rows-14, min-22, min-8}
 use Rattle.text.specs.Bytes.{bytes}
 use Rattle.jobfile.specs.declared.Outcome.the-variants.{NotOfForm, NoLength}
-use Rattle.jobfile.specs.Read.{boardOf, emptyBoard}
+use Rattle.jobfile.specs.Read.{boardOf, emptyJob}
 use Rattle.jobfile.specs.TextsRead.{readAs}
 use Rattle.jobfile.proofs.Texts.{worked-board}
 use Rattle.routing.specs.Route.{routeText}
@@ -21,7 +21,7 @@ abbrev triedJob : ℕ → ℕ → ℕ → Job
 triedJob rows least most = record { board = triedBoard rows; nets = triedNet least most ∷ []; blocks = [] }
 
 -- a board without nets: all sums 0
-no-nets : routeText (emptyBoard (boardOf 21 2)) ≡ bytes "(layout\n (track 1 0)\n (track 2 0)\n)\n"
+no-nets : routeText (emptyJob (boardOf 21 2)) ≡ bytes "(layout\n (track 1 0)\n (track 2 0)\n)\n"
 unfolding computedText
 no-nets = refl
 
@@ -45,7 +45,7 @@ all-stated = (
               (
                 record { outcome = NoLength 4; read = refl; number-is = refl; line-is = refl },
                 (
-                  record { job = emptyBoard (boardOf 21 2); read = refl; written-is = no-nets },
+                  record { job = emptyJob (boardOf 21 2); read = refl; written-is = no-nets },
                   (record { outcome = NotOfForm 1; read = refl; number-is = refl; line-is = refl }, tt),
                 ),
               ),

@@ -1,4 +1,5 @@
--- The table of what the choice needs of each eligible net: what is put for one net, and what stands in it after the nets passed. Assumes nothing.
+-- The table of what the choice needs of each eligible net: what is put for one net, and what stands in it after the nets passed.
+-- Assumes nothing.
 use Prim.Native.Nat.{ℕ, zero, suc, _+_, _≤_, _<_}
 use mathlib.Core.Path.{_≡_, refl, sym, _∙_}
 use mathlib.Core.List.{List}

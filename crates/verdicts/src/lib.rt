@@ -29,7 +29,7 @@ fn put_verdict(out: &mut [u8], number: usize, broken: bool, line: usize) -> usiz
     ensures { λ r. ⌜ Written (verdictLine number broken line) (now (out .entry)) (now (out .exit)) r ⌝ }
 {
     if number != 0 {
-        return reader::put_refusal(out, number, line);
+        return reader::report::put_refusal(out, number, line);
     }
     if broken {
         return put_broken(out, line);

@@ -105,7 +105,7 @@ fn put_tail(out: &mut [u8], at: usize, c: usize, w: usize, p: Point, r: Row, v: 
     put_next(out, a, p3, p4)
 }
 
-// Writes the points of a stretched wire, whose stretched part goes from row u to row v.
+// Writes the points of a stretched wire: columns and pins as for a plain one, the stretched part from row u to row v.
 fn put_stretched(
     out: &mut [u8],
     at: usize,

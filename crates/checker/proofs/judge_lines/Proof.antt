@@ -8,7 +8,7 @@ use Rattle.board.specs.Stored.{jobOf}
 use Rattle.candidates.proofs.ArraySizes.{net-size}
 use Rattle.lines.specs.Stepped.{Stepped}
 use Rattle.judging.specs.Judged.{KeepsStep, JudgedInRange}
-use Rattle.judging.specs.Values.{MapIs}
+use Rattle.judging.specs.Values.{MapOf}
 use Rattle.drc.specs.Pass.{passStep}
 use Rattle.layoutsteps.specs.declared.LayoutStep.the-variants as At
 use Rattle.layoutsteps.specs.LayoutSteps.{layoutStep, lineRead, formNumber}
@@ -165,7 +165,7 @@ loop-again : tie.Need-loop-again Inv-loop μ-loop
 loop-again c =
     let w = c .before .before .before .before .before .before .before .before .before .before .before .before .before .before .before .before .before .loop .inv in
     left-more _ _ _ _ _ _ w _ _ _ _ (read-at (c .before .before .before .before .before .before .before .before .before .before .before .before .before .before)) _ _ (led-at (c .before .before .before .before)) _ (c .before .before .if1 .left) (c .before .before .before .before .take-line .ensures .1)
-    (subst (λ (t : ℕ). MapIs (jobOf (c .before .before .before .before .before .before .before .before .before .before .before .before .before .before .before .before .before .before .before .before .before .before .before .args .t1)) t (c .before .before .before .before .before .before .before .before .before .before .before .before .before .before .before .before .before .loop .map .words)) (sym (c .if2 .taken)) (w .map))
+    (subst (λ (t : ℕ). MapOf (jobOf (c .before .before .before .before .before .before .before .before .before .before .before .before .before .before .before .before .before .before .before .before .before .before .before .args .t1)) t (c .before .before .before .before .before .before .before .before .before .before .before .before .before .before .before .before .before .loop .map .words)) (sym (c .if2 .taken)) (w .map))
 
 block-map-requires-2 : tie.Need-block-map-requires-2 Inv-loop μ-loop
 block-map-requires-2 c κs = c .before .before .before .before .before .before .before .before .before .before .before .before .before .before .before .before .before .before .before .before .before .before .before .pre .0 .accepted

@@ -17,19 +17,19 @@ lesser-requires c κs = search needs
 greater-requires : tie.Need-greater-requires
 greater-requires c κs = search needs
 
-sub-less : tie.Need-sub-less
-sub-less c = search needs
+sub-minus : tie.Need-sub-minus
+sub-minus c = search needs
 
 span-requires : tie.Need-span-requires
 span-requires c κs = search needs
 
-less-requires : tie.Need-less-requires
-less-requires c κs = search needs
+minus-requires : tie.Need-minus-requires
+minus-requires c κs = search needs
 
 returns-2 : tie.Need-returns-2
 returns-2 c =
     only-stretched _ _ _ _ _ _ (not-false _ (c .before .before .before .before .if1 .left)) (c .before .before .before .lesser .ensures)
-    (c .before .before .greater .ensures) (c .before .span .ensures) (c .less .ensures)
+    (c .before .before .greater .ensures) (c .before .span .ensures) (c .minus .ensures)
 
 pub only-place-spec : {M : Type 1} → statement M
 only-place-spec =
@@ -39,7 +39,7 @@ only-place-spec =
     returns
     lesser-requires
     greater-requires
-    sub-less
+    sub-minus
     span-requires
-    less-requires
+    minus-requires
     returns-2)

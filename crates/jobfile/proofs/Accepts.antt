@@ -10,7 +10,6 @@ use lib.ListN.{length, length-append}
 use borrow.Author.Tests.{leb-true, ltb-true}
 use Rattle.lists.specs.Lists.{Each, EachPair, allOf}
 use Rattle.lists.proofs.Laws.{Each-map, Each-of}
-use Rattle.board.specs.declared.Board.{Board}
 use Rattle.board.specs.declared.Net.{Net}
 use Rattle.board.specs.declared.Block.{Block}
 use Rattle.board.specs.Job.{Job}

@@ -4,8 +4,6 @@ use mathlib.Core.Path.{_≡_, refl, ap, subst, _∙_}
 use mathlib.Core.List.{List, [], _∷_, _++_, List·Memᴰ, List·Memᴰ·head}
 use native.Mathlib.Omega.{arith}
 use lib.ListN.{length}
-use Rattle.board.specs.declared.Net.{Net}
-use Rattle.board.specs.declared.Block.{Block}
 use Rattle.board.specs.Job.{Job}
 use Rattle.jobfile.specs.declared.Form.{Form}
 use Rattle.jobfile.specs.declared.Form.the-variants as Is

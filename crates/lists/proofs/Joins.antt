@@ -16,10 +16,6 @@ module _ {A : Type 0} where
   Each-join P [] ys a b = b
   Each-join P (x ∷ xs) ys a b = (a .0, Each-join P xs ys (a .1) b)
 
-  pub Each-left : (P : A → Type 0) (xs ys : List A) → Each P (xs ++ ys) → Each P xs
-  Each-left P [] ys a = tt
-  Each-left P (x ∷ xs) ys a = (a .0, Each-left P xs ys (a .1))
-
   pub Each-right : (P : A → Type 0) (xs ys : List A) → Each P (xs ++ ys) → Each P ys
   Each-right P [] ys a = a
   Each-right P (x ∷ xs) ys a = Each-right P xs ys (a .1)

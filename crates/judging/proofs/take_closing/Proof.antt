@@ -6,7 +6,8 @@ use Rattle.layout.specs.Tree.{closes}
 use Rattle.judging.specs.declared.LinesJudged.{LinesJudged}
 use Rattle.judging.specs.Values.{allLined}
 use Rattle.judging.proofs.Turns.{closes-off, closing-place}
-use Rattle.judging.proofs.Steps.{closing-off, closing-broken, closing-taken, off-range, closed-range, settled-range}
+use Rattle.judging.proofs.Ranges.{off-range, closed-range, settled-range}
+use Rattle.judging.proofs.Steps.{closing-off, closing-broken, closing-taken}
 use borrow.Author.Needs.{needs}
 use Rattle.judging.proofs.take_closing.Statement.{statement}
 use Rattle.judging.proofs.take_closing.Tie as tie

@@ -6,7 +6,8 @@ use Rattle.layout.specs.Tree.{loose}
 use Rattle.judging.specs.declared.LinesJudged.{LinesJudged}
 use Rattle.judging.proofs.ValueTests.{no-net, has-line, not-above, new-loose}
 use Rattle.judging.proofs.Turns.{closes-off, loose-place}
-use Rattle.judging.proofs.Steps.{loose-off, loose-broken, loose-taken, off-range, closed-range, kept-range, settled-range}
+use Rattle.judging.proofs.Ranges.{off-range, closed-range, kept-range, settled-range}
+use Rattle.judging.proofs.Steps.{loose-off, loose-broken, loose-taken}
 use borrow.Author.Needs.{needs}
 use Rattle.judging.proofs.take_loose.Statement.{statement}
 use Rattle.judging.proofs.take_loose.Tie as tie

@@ -1,7 +1,8 @@
 -- `judging::take_opening` meets its contract. Assumes nothing.
 use mathlib.Core.Path.{_≡_}
 use native.Mathlib.Omega.{arith}
-use Rattle.judging.proofs.Steps.{opening-late, opening-taken, closed-range}
+use Rattle.judging.proofs.Ranges.{closed-range}
+use Rattle.judging.proofs.Steps.{opening-late, opening-taken}
 use borrow.Author.Needs.{needs}
 use Rattle.judging.proofs.take_opening.Statement.{statement}
 use Rattle.judging.proofs.take_opening.Tie as tie

@@ -4,7 +4,8 @@ use borrow.Author.Tests.{not-true, not-false}
 use Rattle.layout.specs.Tree.{track}
 use Rattle.judging.specs.declared.LinesJudged.{LinesJudged}
 use Rattle.judging.proofs.Turns.{closes-off, track-place}
-use Rattle.judging.proofs.Steps.{track-off, track-taken, closed-range, settled-range, turn-range}
+use Rattle.judging.proofs.Ranges.{closed-range, settled-range, turn-range}
+use Rattle.judging.proofs.Steps.{track-off, track-taken}
 use borrow.Author.Needs.{needs}
 use Rattle.judging.proofs.take_track.Statement.{statement}
 use Rattle.judging.proofs.take_track.Tie as tie

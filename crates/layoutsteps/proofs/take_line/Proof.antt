@@ -5,7 +5,7 @@ use Rattle.board.specs.declared.Board.{Board}
 use Rattle.layout.specs.Tree.{wire}
 use Rattle.drc.specs.Pass.{passStep}
 use Rattle.judging.proofs.Turns.{closed-stage, closes-ill-formed}
-use Rattle.judging.proofs.Steps.{closed-range}
+use Rattle.judging.proofs.Ranges.{closed-range}
 use Rattle.layoutsteps.specs.LayoutSteps.{formNumber}
 use Rattle.layoutsteps.specs.Found.{FoundFor}
 use Rattle.layoutforms.proofs.FormsRead.{opening-read, track-read, wire-read, loose-read, closing-read, other-read}

@@ -8,7 +8,8 @@ use Rattle.board.proofs.ShortestShape.{worth-range}
 use Rattle.layout.specs.Tree.{wire}
 use Rattle.drc.specs.Covers.{drawnOf}
 use Rattle.judging.proofs.Turns.{closes-off, wire-place}
-use Rattle.judging.proofs.Steps.{closed-range, wire-range, wire-taken}
+use Rattle.judging.proofs.Ranges.{closed-range, wire-range}
+use Rattle.judging.proofs.Steps.{wire-taken}
 use Rattle.layoutsteps.proofs.WireLines.{place-none, drawn-at, unknown-undrawn, unknown-worth, found-number, known-worth, known-drawn, below-512}
 use borrow.Author.Needs.{needs}
 use Rattle.layoutsteps.proofs.take_wire.Statement.{statement}

@@ -8,7 +8,8 @@ use Rattle.board.specs.Length.{worth}
 use Rattle.board.proofs.ShortestShape.{worth-range}
 use Rattle.judging.specs.Values.{isNextAt, firstBreach}
 use Rattle.judging.proofs.ValueTests.{fits-covered}
-use Rattle.judging.proofs.Steps.{drawn-kept, kept-range}
+use Rattle.judging.proofs.Ranges.{kept-range}
+use Rattle.judging.proofs.WireSteps.{drawn-kept}
 use borrow.Author.Needs.{needs}
 use Rattle.judging.proofs.wires.add_drawn.Statement.{statement}
 use Rattle.judging.proofs.wires.add_drawn.Tie as tie

@@ -1,7 +1,8 @@
 -- `judging::wires::add_undrawn` meets its contract. Assumes nothing.
 use mathlib.Core.Path.{refl}
 use native.Mathlib.Omega.{arith}
-use Rattle.judging.proofs.Steps.{undrawn-added, kept-range}
+use Rattle.judging.proofs.Ranges.{kept-range}
+use Rattle.judging.proofs.WireSteps.{undrawn-added}
 use borrow.Author.Needs.{needs}
 use Rattle.judging.proofs.wires.add_undrawn.Statement.{statement}
 use Rattle.judging.proofs.wires.add_undrawn.Tie as tie

@@ -83,7 +83,7 @@ pub record LayoutLeft (job : Job) (s : List ℕ) (j : LinesJudged) (stands words
   pub state : PassState
   pub keeps : KeepsState job state j stands
   pub range : JudgedInRange (p .passed) j
-  pub map : MapOf job (j .track) words
+  pub map : MapOf job (j .track .0) words
   pub counted : p .passed ≤ p .at
   pub inside : p .at ≤ length s
   pub rest : passOver job s ≡ passFrom job (suc (p .passed)) state (linesRead (drop (p .at) s))
@@ -134,7 +134,7 @@ module _ (job : Job) (s : List ℕ) (j : LinesJudged) (stands words : List ℕ) 
       pub left-broken : i .stage ≡ 3 → passOver job s ≡ broken-at (i .breach)
       left-broken z = turn ∙ decided job led i after _ k z
 
-      pub left-more : (words′ : List ℕ) → (i .stage ≡ 3 → ⊥) → JudgedInRange (p .passed + 1) i → MapOf job (i .track) words′ → LayoutLeft job s i after words′ n
+      pub left-more : (words′ : List ℕ) → (i .stage ≡ 3 → ⊥) → JudgedInRange (p .passed + 1) i → MapOf job (i .track .0) words′ → LayoutLeft job s i after words′ n
       unfolding afterStep
       left-more words′ d r blocks =
           let g = undecided job led i after k d in

@@ -105,16 +105,16 @@ fn judge_lines<'a>(
         let at = layoutsteps::find_slot(numbers, before, count, form);
         let slot = at.slot;
         let net = layoutsteps::net_found(at, job.nets[slot]);
-        let above = m.track;
+        let above = m.track.0;
         let s = &text[from..to];
         m = layoutsteps::take_line(board, count, net, &map.words, &mut stands, m, line, form, s);
         if m.stage == judging::DECIDED {
             return CheckAnswer::Broken(m.breach);
         }
-        if m.track == above {
+        if m.track.0 == above {
             continue;
         }
-        map = candidates::block_map(job, Track(m.track));
+        map = candidates::block_map(job, m.track);
     }
 }
 

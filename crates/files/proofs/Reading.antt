@@ -1,7 +1,7 @@
 -- What was read, put at the start of a buffer, and what can't be opened. Assumes nothing.
 use Prim.{tt}
 use Prim.Native.Nat.{ℕ, _≤_}
-use mathlib.Core.Path.{_≡_, refl, sym, ap, _∙_}
+use mathlib.Core.Path.{_≡_, refl, sym}
 use mathlib.Core.Bool.{false}
 use mathlib.Core.List.{List}
 use native.Mathlib.Omega.{arith}

@@ -174,7 +174,7 @@ module _ (job : Job) (a : AcceptedJob job) where
     -- ---- a wire drawn
 
     pub next-same : (words : List ℕ) (found : NetFound) (j : LinesJudged) (top : ℕ) (s : Shape) → NetIs job found → MapOf job (m .track) words →
-        j .track ≡ m .track → j .lowest ≡ m .lowest →
+        j .track .0 ≡ m .track → j .lowest .0 ≡ m .lowest →
         isNextAt (job .board) words stands found j top s ≡ isNextWire job m (some (placementAt (found .net) s top))
     unfolding isNextAt isAllowed isNextWire isSoundPlace isLong isShort isClear covered
     next-same words found j top s is blocks on low =
@@ -200,5 +200,5 @@ next-new board words stands found j top s t =
     let long = isAllowed board (found .net) s in
     let clear = allUnset words top (covered (found .net) s) in
     let new = eqb (getD stands (found .index) 0) 0 in
-    let ready = readyAt (found .before) stands (j .track) in
-    and-split (long && clear) new (and-split (long && clear && new) ready (and-split (long && clear && new && ready) (ltb (j .lowest) top) t .0) .0) .1
+    let ready = readyAt (found .before) stands (j .track .0) in
+    and-split (long && clear) new (and-split (long && clear && new) ready (and-split (long && clear && new && ready) (ltb (j .lowest .0) top) t .0) .0) .1

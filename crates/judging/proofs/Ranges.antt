@@ -21,7 +21,7 @@ closed-range n i j =
     (λ t. rw (closed-above j i (eqb-false (j .breach) 0 t)) (off-range n (j .breach)))
 
 -- what is kept of the lines above, behind a line that adds at most 4,096
-pub kept-range : (n : ℕ) (i j : LinesJudged) → 1 ≤ n → JudgedInRange (n - 1) j → i .track ≡ j .track → i .sum ≤ j .sum + 4096 → JudgedInRange n i
+pub kept-range : (n : ℕ) (i j : LinesJudged) → 1 ≤ n → JudgedInRange (n - 1) j → i .track .0 ≡ j .track .0 → i .sum ≤ j .sum + 4096 → JudgedInRange n i
 kept-range n i j l r t s = record { track-range = omega (arith, r .track-range); sum-range = omega (arith, r .sum-range) }
 
 pub settled-range : (n : ℕ) (j : LinesJudged) → 1 ≤ n → JudgedInRange (n - 1) j → JudgedInRange n (settledOf j)
@@ -34,17 +34,17 @@ settled-range n j l r =
     (λ f. rw (settled-wire j e (eqb-false (j .breach) 0 f)) (off-range n (j .breach))))
     (λ t. rw (settled-sum j (eqb-false (j .sum) (j .printed) t)) (off-range n (j .line)))
 
-pub turn-range : (k n u : ℕ) (i j : LinesJudged) → k ≤ 128 → isTrackTurn k j u ≡ true → i .track ≡ u → i .sum ≡ 0 → JudgedInRange n i
+pub turn-range : (k n u : ℕ) (i j : LinesJudged) → k ≤ 128 → isTrackTurn k j u ≡ true → i .track .0 ≡ u → i .sum ≡ 0 → JudgedInRange n i
 turn-range k n u i j h t e z =
-    let a = and-split (eqb (j .stage) 1) (eqb (j .last) 0 && (eqb u (j .track + 1) && leb u k)) t in
-    let b = and-split (eqb (j .last) 0) (eqb u (j .track + 1) && leb u k) (a .1) in
-    let c = leb-true u k (and-split (eqb u (j .track + 1)) (leb u k) (b .1) .1) in
+    let a = and-split (eqb (j .stage) 1) (eqb (j .last) 0 && (eqb u (j .track .0 + 1) && leb u k)) t in
+    let b = and-split (eqb (j .last) 0) (eqb u (j .track .0 + 1) && leb u k) (a .1) in
+    let c = leb-true u k (and-split (eqb u (j .track .0 + 1)) (leb u k) (b .1) .1) in
     record { track-range = omega (arith, c); sum-range = omega (arith, z) }
 
 -- the track of a wire that can stand is one of the board
-pub wire-range : (k : ℕ) (j : LinesJudged) → isWireTurn k j ≡ true → (1 ≤ j .track) × (j .track ≤ k)
+pub wire-range : (k : ℕ) (j : LinesJudged) → isWireTurn k j ≡ true → (1 ≤ j .track .0) × (j .track .0 ≤ k)
 wire-range k j t =
-    let a = and-split (eqb (j .stage) 1) (eqb (j .last) 0 && leb 1 (j .track) && leb (j .track) k) t in
-    let b = and-split (eqb (j .last) 0 && leb 1 (j .track)) (leb (j .track) k) (a .1) in
-    let c = and-split (eqb (j .last) 0) (leb 1 (j .track)) (b .0) in
-    (leb-true 1 (j .track) (c .1), leb-true (j .track) k (b .1))
+    let a = and-split (eqb (j .stage) 1) (eqb (j .last) 0 && leb 1 (j .track .0) && leb (j .track .0) k) t in
+    let b = and-split (eqb (j .last) 0 && leb 1 (j .track .0)) (leb (j .track .0) k) (a .1) in
+    let c = and-split (eqb (j .last) 0) (leb 1 (j .track .0)) (b .0) in
+    (leb-true 1 (j .track .0) (c .1), leb-true (j .track .0) k (b .1))

@@ -31,7 +31,7 @@ use Rattle.judging.proofs.LinesAdded.{line-added, unlined-same}
 
 -- behind `(layout`
 abbrev pub opened : LinesJudged
-opened = record { stage = 1; track = 0; line = 0; printed = 0; sum = 0; lowest = 0; last = 0; breach = 0 }
+opened = record { stage = 1; track = record { 0 = 0 }; line = 0; printed = 0; sum = 0; lowest = record { 0 = 0 }; last = 0; breach = 0 }
 
 pub opening-taken : (job : Job) (n : ℕ) (st : PassState) (j : LinesJudged) (stands : List ℕ) → j .stage ≡ 0 → KeepsState job st j stands →
     KeepsStep job (passLine job n st opens) opened stands
@@ -105,7 +105,7 @@ module _ (job : Job) (n : ℕ) (j : LinesJudged) (stands : List ℕ) where
 
   -- behind it
   abbrev underTrack : ℕ → ℕ → LinesJudged
-  underTrack u s = record { stage = 1; track = u; line = n; printed = s; sum = 0; lowest = 0; last = j .last; breach = 0 }
+  underTrack u s = record { stage = 1; track = record { 0 = u }; line = n; printed = s; sum = 0; lowest = record { 0 = 0 }; last = j .last; breach = 0 }
 
   track-added : (u s : ℕ) (m : Summary) → m .track < u → KeepsSummary job m j stands → j .breach ≡ 0 → KeepsSummary job (addTrack n u s m) (underTrack u s) stands
   unfolding breachOf
@@ -148,7 +148,7 @@ module _ (job : Job) (n : ℕ) (j : LinesJudged) (stands : List ℕ) where
 
   -- behind it
   abbrev behindAll : LinesJudged
-  behindAll = record { stage = 2; track = 0; line = 0; printed = 0; sum = 0; lowest = 0; last = 0; breach = 0 }
+  behindAll = record { stage = 2; track = record { 0 = 0 }; line = 0; printed = 0; sum = 0; lowest = record { 0 = 0 }; last = 0; breach = 0 }
 
   pub closing-taken : (st : PassState) → canStand job st closes ≡ true → (settledOf j .stage ≡ 3 → ⊥) → allLined stands (length (job .nets)) ≡ true →
       KeepsState job st j stands → KeepsStep job (passLine job n st closes) behindAll stands
@@ -171,7 +171,7 @@ module _ (job : Job) (n : ℕ) (j : LinesJudged) (stands : List ℕ) where
   -- ---- a wire line, where it can stand
 
   pub wire-taken : (st : PassState) (w : Wire) (o : Option Placement) (i : LinesJudged) (after : List ℕ) → canStand job st (wire w) ≡ true →
-      KeepsState job st j stands → drawnBy job (j .track) w ≡ o →
+      KeepsState job st j stands → drawnBy job (j .track .0) w ≡ o →
       ((m : Summary) → KeepsSummary job m j stands → KeepsSummary job (addWire job n w o m) i after) →
       KeepsStep job (passLine job n st (wire w)) i after
   unfolding isOpening passInTurn
@@ -214,7 +214,7 @@ module _ (job : Job) (n : ℕ) (j : LinesJudged) (stands : List ℕ) where
         rw (in-turn job n m (loose number) e′, on .0, loose-test m h (on .1), t) (refl, refl))
 
     loose-added : (m : Summary) → canStand job (running m) (loose number) ≡ true → KeepsSummary job m j stands → j .breach ≡ 0 → isNewLoose ≡ true →
-        KeepsSummary job (addLoose number m) behindLoose (set stands index (j .track))
+        KeepsSummary job (addLoose number m) behindLoose (set stands index (j .track .0))
     unfolding canStand isInTurn endsTrack
     loose-added m e h z t =
         let first = and-split (not (eqb index 512) && eqb (getD stands index 0) 0) (ltb (j .last) number) t in
@@ -238,10 +238,10 @@ module _ (job : Job) (n : ℕ) (j : LinesJudged) (stands : List ℕ) where
         }
 
     pub loose-taken : (st : PassState) → canStand job st (loose number) ≡ true → (settledOf j .stage ≡ 3 → ⊥) → isNewLoose ≡ true →
-        KeepsState job st j stands → KeepsStep job (passLine job n st (loose number)) behindLoose (set stands index (j .track))
+        KeepsState job st j stands → KeepsStep job (passLine job n st (loose number)) behindLoose (set stands index (j .track .0))
     unfolding isOpening passInTurn orBroken
     loose-taken st e d t k =
-        runs st (loose number) refl e k (λ x. KeepsStep job (passLine job n x (loose number)) behindLoose (set stands index (j .track)))
+        runs st (loose number) refl e k (λ x. KeepsStep job (passLine job n x (loose number)) behindLoose (set stands index (j .track .0)))
         (λ m e′ h.
         let on = settled-on job m j stands h (orBroken n (isUnlined job (m .lined) number && ltb (m .last) number) (passes-on (running (addLoose number m)))) d in
         rw (in-turn job n m (loose number) e′, on .0, loose-test m h (on .1), t) (loose-added m e′ h (on .1) t))

@@ -75,7 +75,7 @@ module _ (job : Job) where
     unfolding canStand isOpening isInTurn endsTrack
     track-place unbegun u s h = rw (h .0)
     track-place (running m) u s h =
-        let e : j .track + 1 ≡ suc (j .track) = omega arith in
+        let e : j .track .0 + 1 ≡ suc (j .track .0) = omega arith in
         rw (h .stage-is, h .last-is, h .track-is, is, e)
     track-place finished u s h = rw (h .0)
 

@@ -79,7 +79,7 @@ module _ (board : Board) (words stands : List ℕ) (found : NetFound) (j : Lines
   clear = allUnset words top (covered (found .net) s)
 
   abbrev ready : Bool
-  ready = readyAt (found .before) stands (j .track)
+  ready = readyAt (found .before) stands (j .track .0)
 
   pub not-allowed : allowed ≡ false → NextWire ≡ false
   unfolding isNextAt
@@ -97,7 +97,7 @@ module _ (board : Board) (words stands : List ℕ) (found : NetFound) (j : Lines
   unfolding isNextAt
   not-ready a b e r = rw (a, b, eq-eqb (getD stands (found .index) 0) 0 e, r)
 
-  pub all-but-order : allowed ≡ true → clear ≡ true → getD stands (found .index) 0 ≡ 0 → ready ≡ true → NextWire ≡ ltb (j .lowest) top
+  pub all-but-order : allowed ≡ true → clear ≡ true → getD stands (found .index) 0 ≡ 0 → ready ≡ true → NextWire ≡ ltb (j .lowest .0) top
   unfolding isNextAt
   all-but-order a b e r = rw (a, b, eq-eqb (getD stands (found .index) 0) 0 e, r)
 

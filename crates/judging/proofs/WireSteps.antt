@@ -57,14 +57,14 @@ module _ (job : Job) (n : ℕ) (line : LineInRange n) (s : Summary) (w : Wire) (
     line = j .line;
     printed = j .printed;
     sum = j .sum + more;
-    lowest = lowest;
+    lowest = record { 0 = lowest };
     last = j .last;
     breach = breach;
   }
 
   -- that draws no placement of its net
   pub undrawn-added : (before after : List ℕ) (more : ℕ) → worthOf job (w .number) ≡ more → KeepsSummary job s j before →
-      KeepsSummary job (addWire job n w none s) (behindWire more (j .lowest) (firstBreach (j .breach) false n)) after
+      KeepsSummary job (addWire job n w none s) (behindWire more (j .lowest .0) (firstBreach (j .breach) false n)) after
   unfolding isNextWire lowestOf
   undrawn-added before after more v h =
       record {
@@ -80,7 +80,7 @@ module _ (job : Job) (n : ℕ) (line : LineInRange n) (s : Summary) (w : Wire) (
       }
 
   module _ (a : AcceptedJob job) (found : NetFound) (is : NetIs job found) (numbered : found .net .number ≡ w .number) (words stands : List ℕ)
-      (blocks : MapOf job (j .track) words) (begun : 1 ≤ j .track) (top : ℕ) (shape : Shape) where
+      (blocks : MapOf job (j .track .0) words) (begun : 1 ≤ j .track .0) (top : ℕ) (shape : Shape) where
     abbrev next : Bool
     next = isNextAt (job .board) words stands found j top shape
 
@@ -91,10 +91,10 @@ module _ (job : Job) (n : ℕ) (line : LineInRange n) (s : Summary) (w : Wire) (
     drawn-added : KeepsSummary job s j stands →
         KeepsSummary job (addWire job n w (some (placementAt (found .net) shape top)) s)
         (behindWire (worth (job .board) (found .net)) (top + span (found .net) + extra shape) (firstBreach (j .breach) next n))
-        (set stands (found .index) (j .track))
+        (set stands (found .index) (j .track .0))
     unfolding lowestOf
     drawn-added h =
-        let on : j .track ≡ s .track = sym (h .track-is) in
+        let on : j .track .0 ≡ s .track = sym (h .track-is) in
         record {
           stage-is = h .stage-is;
           track-is = h .track-is;
@@ -117,5 +117,5 @@ module _ (job : Job) (n : ℕ) (line : LineInRange n) (s : Summary) (w : Wire) (
     -- the same of what the code works out
     pub drawn-kept : (more lowest breach : ℕ) → more ≡ worth (job .board) (found .net) → lowest ≡ top + covered (found .net) shape - 1 →
         breach ≡ firstBreach (j .breach) next n → KeepsSummary job s j stands →
-        KeepsSummary job (addWire job n w (some (placementAt (found .net) shape top)) s) (behindWire more lowest breach) (set stands (found .index) (j .track))
+        KeepsSummary job (addWire job n w (some (placementAt (found .net) shape top)) s) (behindWire more lowest breach) (set stands (found .index) (j .track .0))
     drawn-kept more lowest breach e f g h = rw (e, f ∙ lowest-row top (found .net) shape, g) (drawn-added h)

@@ -29,11 +29,11 @@ pub record NetLines (job : Job) (m : Summary) (stands : List ℕ) : Type 0 where
 -- j and `stands` keep what m keeps. Behind a broken wire only the sum of its track is still open, and `stands` no longer matters
 pub record KeepsSummary (job : Job) (m : Summary) (j : LinesJudged) (stands : List ℕ) : Type 0 where
   pub stage-is : j .stage ≡ 1
-  pub track-is : m .track ≡ j .track
+  pub track-is : m .track ≡ j .track .0
   pub line-is : m .line ≡ j .line
   pub printed-is : m .printed ≡ j .printed
   pub sum-is : m .sum ≡ j .sum
-  pub lowest-is : m .lowest ≡ j .lowest
+  pub lowest-is : m .lowest ≡ j .lowest .0
   pub last-is : m .last ≡ j .last
   pub breach-is : m .breach ≡ breachOf (j .breach)
   pub lines-are : j .breach ≡ 0 → NetLines job m stands
@@ -51,7 +51,7 @@ KeepsStep job (decides v) j stands = (j .stage ≡ 3) × (v ≡ broken-at (j .br
 
 -- the numbers kept behind n lines: a track is at most 128, and each line adds at most 4,096 to a sum, so that none runs over
 pub record JudgedInRange (n : ℕ) (j : LinesJudged) : Type 0 where
-  pub track-range : j .track ≤ 128
+  pub track-range : j .track .0 ≤ 128
   pub sum-range : j .sum ≤ 4096 * n
 
 -- line n of a text of at most 64,000 bytes, or the line after its last

@@ -41,11 +41,11 @@ allLined stands (suc k) = allLined stands k && not (eqb (getD stands k 0) 0)
 unfoldable pub isNextAt : Board → List ℕ → List ℕ → NetFound → LinesJudged → ℕ → Shape → Bool
 isNextAt board words stands found j top s =
     isAllowed board (found .net) s && allUnset words top (covered (found .net) s) && eqb (getD stands (found .index) 0) 0 &&
-    readyAt (found .before) stands (j .track) && ltb (j .lowest) top
+    readyAt (found .before) stands (j .track .0) && ltb (j .lowest .0) top
 
 -- nothing stands above
 abbrev pub notBegun : LinesJudged
-notBegun = record { stage = 0; track = 0; line = 0; printed = 0; sum = 0; lowest = 0; last = 0; breach = 0 }
+notBegun = record { stage = 0; track = record { 0 = 0 }; line = 0; printed = 0; sum = 0; lowest = record { 0 = 0 }; last = 0; breach = 0 }
 
 -- the line of the first broken wire of a track, 0 if none is broken, where the wire of line n is the last
 unfoldable pub firstBreach : ℕ → Bool → ℕ → ℕ
@@ -53,7 +53,7 @@ firstBreach breach passed n = cond (eqb breach 0) (cond passed 0 n) breach
 
 -- the verdict stands: broken at line l
 abbrev pub brokenOff : ℕ → LinesJudged
-brokenOff l = record { stage = 3; track = 0; line = 0; printed = 0; sum = 0; lowest = 0; last = 0; breach = l }
+brokenOff l = record { stage = 3; track = record { 0 = 0 }; line = 0; printed = 0; sum = 0; lowest = record { 0 = 0 }; last = 0; breach = l }
 
 -- the judging closes at line n: broken at the first broken wire of the track, or at line n
 unfoldable pub closedOf : LinesJudged → ℕ → LinesJudged
@@ -65,15 +65,15 @@ settledOf j = cond (eqb (j .sum) (j .printed)) (cond (eqb (j .breach) 0) j (brok
 
 -- the line of track u can stand behind the lines that j keeps, on a board with k tracks
 abbrev pub isTrackTurn : ℕ → LinesJudged → ℕ → Bool
-isTrackTurn k j u = eqb (j .stage) 1 && (eqb (j .last) 0 && (eqb u (j .track + 1) && leb u k))
+isTrackTurn k j u = eqb (j .stage) 1 && (eqb (j .last) 0 && (eqb u (j .track .0 + 1) && leb u k))
 
 -- a wire can stand behind the lines that j keeps, on a board with k tracks
 abbrev pub isWireTurn : ℕ → LinesJudged → Bool
-isWireTurn k j = eqb (j .stage) 1 && (eqb (j .last) 0 && leb 1 (j .track) && leb (j .track) k)
+isWireTurn k j = eqb (j .stage) 1 && (eqb (j .last) 0 && leb 1 (j .track .0) && leb (j .track .0) k)
 
 -- a loose line or the closing line can stand behind the lines that j keeps, on a board with k tracks
 abbrev pub isEndTurn : ℕ → LinesJudged → Bool
-isEndTurn k j = eqb (j .stage) 1 && eqb (j .track) k
+isEndTurn k j = eqb (j .stage) 1 && eqb (j .track .0) k
 
 -- found is the net of the job with that index, and the net that precedes it
 pub record NetIs (job : Job) (found : NetFound) : Type 0 where

@@ -3,6 +3,8 @@ pub mod nets;
 pub mod wires;
 
 use board::Net;
+use board::Row;
+use board::Track;
 ghost use mathlib.Core.Path.{_≡_};
 ghost use mathlib.Core.List.{List};
 ghost use Prim.Native.Nat.{ℕ, _-_, _≤_};
@@ -35,11 +37,11 @@ pub const DECIDED: usize = 3;
 // track, or, where the verdict stands, the broken line. 0 where there is none.
 pub struct LinesJudged {
     pub stage: usize,
-    pub track: usize,
+    pub track: Track,
     pub line: usize,
     pub printed: usize,
     pub sum: usize,
-    pub lowest: usize,
+    pub lowest: Row,
     pub last: usize,
     pub breach: usize,
 }
@@ -70,11 +72,11 @@ pub fn unbegun() -> LinesJudged
 {
     LinesJudged {
         stage: UNBEGUN,
-        track: 0,
+        track: Track(0),
         line: 0,
         printed: 0,
         sum: 0,
-        lowest: 0,
+        lowest: Row(0),
         last: 0,
         breach: 0,
     }
@@ -86,11 +88,11 @@ fn broken(line: usize) -> LinesJudged
 {
     LinesJudged {
         stage: DECIDED,
-        track: 0,
+        track: Track(0),
         line: 0,
         printed: 0,
         sum: 0,
-        lowest: 0,
+        lowest: Row(0),
         last: 0,
         breach: line,
     }
@@ -121,25 +123,25 @@ fn settled(m: LinesJudged) -> LinesJudged
 }
 
 // Whether the line of a track comes in turn, on a board with so many tracks.
-fn is_track_turn(tracks: usize, m: LinesJudged, track: usize) -> bool
-    requires { ⌜ m .track ≤ 128 ⌝ }
-    ensures { λ r. ⌜ r ≡ isTrackTurn tracks m track ⌝ }
+fn is_track_turn(tracks: usize, m: LinesJudged, track: Track) -> bool
+    requires { ⌜ m .track .0 ≤ 128 ⌝ }
+    ensures { λ r. ⌜ r ≡ isTrackTurn tracks m (track .0) ⌝ }
 {
-    (m.stage == RUNNING) & ((m.last == 0) & ((track == m.track + 1) & (track <= tracks)))
+    (m.stage == RUNNING) & ((m.last == 0) & ((track.0 == m.track.0 + 1) & (track.0 <= tracks)))
 }
 
 // Whether a wire can stand behind the lines above.
 pub fn is_wire_turn(tracks: usize, m: LinesJudged) -> bool
     ensures { λ r. ⌜ r ≡ isWireTurn tracks m ⌝ }
 {
-    (m.stage == RUNNING) & ((m.last == 0) & (1 <= m.track) & (m.track <= tracks))
+    (m.stage == RUNNING) & ((m.last == 0) & (1 <= m.track.0) & (m.track.0 <= tracks))
 }
 
 // Whether a loose line or the closing line can stand behind the lines above.
 fn is_end_turn(tracks: usize, m: LinesJudged) -> bool
     ensures { λ r. ⌜ r ≡ isEndTurn tracks m ⌝ }
 {
-    (m.stage == RUNNING) & (m.track == tracks)
+    (m.stage == RUNNING) & (m.track.0 == tracks)
 }
 
 // What the opening line leads to.
@@ -162,13 +164,13 @@ pub fn take_track(
     tracks: usize,
     m: LinesJudged,
     line: usize,
-    track: usize,
+    track: Track,
     printed: usize,
 ) -> LinesJudged
     requires { ⌜ LineInRange line ⌝ }
     requires { ⌜ JudgedInRange (line - 1) m ⌝ }
     requires { ⌜ tracks ≤ 128 ⌝ }
-    ensures { λ r. ⌜ ((job : Job) (st : PassState) (stands : List ℕ) → job .board .tracks ≡ tracks → KeepsState job st m stands → KeepsStep job (passLine job line st (Tree.track track printed)) r stands) ⌝ }
+    ensures { λ r. ⌜ ((job : Job) (st : PassState) (stands : List ℕ) → job .board .tracks ≡ tracks → KeepsState job st m stands → KeepsStep job (passLine job line st (Tree.track (track .0) printed)) r stands) ⌝ }
     ensures { λ r. ⌜ (JudgedInRange line r) ⌝ }
 {
     if !is_track_turn(tracks, m, track) {
@@ -184,7 +186,7 @@ pub fn take_track(
         line,
         printed,
         sum: 0,
-        lowest: 0,
+        lowest: Row(0),
         last: m.last,
         breach: 0,
     }
@@ -221,7 +223,7 @@ pub fn take_loose(
     if number <= m.last {
         return broken(line);
     }
-    stands[index] = m.track;
+    stands[index] = m.track.0;
     LinesJudged { last: number, ..m }
 }
 

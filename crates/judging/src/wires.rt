@@ -5,6 +5,7 @@ use board::Board;
 use board::Net;
 use board::Row;
 use board::Shape;
+use board::Track;
 ghost use mathlib.Core.Path.{_≡_};
 ghost use mathlib.Core.List.{List};
 ghost use mathlib.Core.Option.{none, some};
@@ -50,9 +51,9 @@ pub fn is_allowed(board: Board, net: Net, shape: Shape) -> bool
 }
 
 // Whether the net that precedes a net, if one does, has its line on an earlier track.
-pub fn is_ready(before: usize, stands: &[usize; 512], track: usize) -> bool
+pub fn is_ready(before: usize, stands: &[usize; 512], track: Track) -> bool
     requires { ⌜ before ≤ 512 ⌝ }
-    ensures { λ r. ⌜ r ≡ readyAt before (now (stands .entry)) track ⌝ }
+    ensures { λ r. ⌜ r ≡ readyAt before (now (stands .entry)) (track .0) ⌝ }
 {
     if before == 512 {
         return true;
@@ -61,7 +62,7 @@ pub fn is_ready(before: usize, stands: &[usize; 512], track: usize) -> bool
     if above == 0 {
         return false;
     }
-    above < track
+    above < track.0
 }
 
 // Whether a wire of a net that is drawn in a shape with its top at a row may stand below the lines above.
@@ -91,7 +92,7 @@ pub fn may_stand<'a>(
     if !is_ready(found.before, stands, m.track) {
         return false;
     }
-    m.lowest < top.0
+    m.lowest.0 < top.0
 }
 
 // The line of the first broken wire of a track behind one more wire, 0 if none is broken.
@@ -137,21 +138,21 @@ pub fn add_drawn(
     requires { ⌜ LineInRange line ⌝ }
     requires { ⌜ JudgedInRange (line - 1) m ⌝ }
     requires { ⌜ NetFits board found (top .0) shape ⌝ }
-    ensures { λ r. ⌜ ((job : Job) (s : Summary) (w : Wire) → AcceptedJob job → job .board ≡ board → NetIs job found → found .net .number ≡ w .number → MapOf job (m .track) (now (words .entry)) → 1 ≤ m .track → KeepsSummary job s m (now (stands .entry)) → KeepsSummary job (addWire job line w (some (placementAt (found .net) shape (top .0))) s) r (now (stands .exit))) ⌝ }
+    ensures { λ r. ⌜ ((job : Job) (s : Summary) (w : Wire) → AcceptedJob job → job .board ≡ board → NetIs job found → found .net .number ≡ w .number → MapOf job (m .track .0) (now (words .entry)) → 1 ≤ m .track .0 → KeepsSummary job s m (now (stands .entry)) → KeepsSummary job (addWire job line w (some (placementAt (found .net) shape (top .0))) s) r (now (stands .exit))) ⌝ }
     ensures { λ r. ⌜ (JudgedInRange line r) ⌝ }
 {
     let net = found.net;
     let index = found.index;
     let passed = may_stand(board, found, words, stands, m, top, shape);
     let breach = first_breach(m.breach, passed, line);
-    stands[index] = m.track;
+    stands[index] = m.track.0;
     let rows = board::covered(net, shape);
     let lowest = top.0 + rows - 1;
     let worth = board::worth(board, net);
     let sum = m.sum + worth;
     LinesJudged {
         sum,
-        lowest,
+        lowest: Row(lowest),
         breach,
         ..m
     }

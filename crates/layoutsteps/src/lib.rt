@@ -122,7 +122,7 @@ fn take_wire(
     requires { ⌜ JudgedInRange (line - 1) m ⌝ }
     requires { ⌜ FoundFits board found ⌝ }
     requires { ⌜ LineOfWire found (now s) ⌝ }
-    ensures { λ r. ⌜ ((job : Job) (st : PassState) (w : Wire) → AcceptedJob job → job .board ≡ board → FoundFor job (w .number) found → readLine (now (s .entry)) ≡ some (wire w) → MapOf job (m .track) (now (words .entry)) → KeepsState job st m (now (stands .entry)) → KeepsStep job (passLine job line st (wire w)) r (now (stands .exit))) ⌝ }
+    ensures { λ r. ⌜ ((job : Job) (st : PassState) (w : Wire) → AcceptedJob job → job .board ≡ board → FoundFor job (w .number) found → readLine (now (s .entry)) ≡ some (wire w) → MapOf job (m .track .0) (now (words .entry)) → KeepsState job st m (now (stands .entry)) → KeepsStep job (passLine job line st (wire w)) r (now (stands .exit))) ⌝ }
     ensures { λ r. ⌜ (JudgedInRange line r) ⌝ }
 {
     if !judging::is_wire_turn(board.tracks, m) {
@@ -132,7 +132,7 @@ fn take_wire(
         return judging::wires::add_undrawn(m, line, 0);
     }
     let net = found.net;
-    match drawnwires::drawn_place(board, net, Track(m.track), s) {
+    match drawnwires::drawn_place(board, net, m.track, s) {
         DrawnPlace::Nothing => judging::wires::add_undrawn(m, line, board::worth(board, net)),
         DrawnPlace::At { top, shape } => {
             judging::wires::add_drawn(board, found, words, stands, m, line, top, shape)
@@ -156,12 +156,14 @@ pub fn take_line(
     requires { ⌜ JudgedInRange (line - 1) m ⌝ }
     requires { ⌜ FoundFits board found ⌝ }
     requires { ⌜ (count ≤ 512) × LineOfForm found form (now s) ⌝ }
-    ensures { λ r. ⌜ ((job : Job) (st : PassState) (x : Option Line) → AcceptedJob job → job .board ≡ board → length (job .nets) ≡ count → FoundFor job (formNumber form) found → LineIs (now (s .entry)) x form → MapOf job (m .track) (now (words .entry)) → KeepsState job st m (now (stands .entry)) → KeepsStep job (passStep job line st x) r (now (stands .exit))) ⌝ }
+    ensures { λ r. ⌜ ((job : Job) (st : PassState) (x : Option Line) → AcceptedJob job → job .board ≡ board → length (job .nets) ≡ count → FoundFor job (formNumber form) found → LineIs (now (s .entry)) x form → MapOf job (m .track .0) (now (words .entry)) → KeepsState job st m (now (stands .entry)) → KeepsStep job (passStep job line st x) r (now (stands .exit))) ⌝ }
     ensures { λ r. ⌜ (JudgedInRange line r) ⌝ }
 {
     match form {
         LayoutForm::Opening => judging::take_opening(m, line),
-        LayoutForm::Track { track, sum } => judging::take_track(board.tracks, m, line, track, sum),
+        LayoutForm::Track { track, sum } => {
+            judging::take_track(board.tracks, m, line, Track(track), sum)
+        }
         LayoutForm::Wire { number: _ } => take_wire(board, found, words, stands, m, line, s),
         LayoutForm::Loose { number } => {
             judging::take_loose(board.tracks, m, line, number, found.index, stands)

@@ -70,15 +70,15 @@ unbegun-requires c κs = search needs
 
 returns-4 : tie.Need-returns-4
 returns-4 c =
-    let s = c .before .before .before .before .before .before .before .before in
+    let s = c .before .before .before .before .before .before .before .before .before .before in
     let a = s .args in
-    let e = c .before .before .before .before .before .settled .ensures in
-    let turn = sym (c .before .before .before .before .before .before .before .is-end-turn .ensures) ∙ not-false _ (c .before .before .before .before .before .before .if1 .left) in
-    rw (c .unbegun .ensures) (
+    let e = c .before .before .before .before .before .before .before .settled .ensures in
+    let turn = sym (c .before .before .before .before .before .before .before .before .before .is-end-turn .ensures) ∙ not-false _ (c .before .before .before .before .before .before .before .before .if1 .left) in
+    rw (c .before .before .unbegun .ensures) (
       λ job st acc is n k.
           closing-taken job (a .line) (a .m) (a .stands .now) st (sym (closing-place job (a .tracks) is (a .m) (a .stands .now) st k) ∙ turn)
-          (λ d. c .before .before .before .if2 .left (ap (λ (j : LinesJudged). j .stage) e ∙ d))
-          (ap (allLined (a .stands .now)) n ∙ sym (c .before .before .all-lined .ensures) ∙ not-false _ (c .before .if3 .left)) k,
+          (λ d. c .before .before .before .before .before .if2 .left (ap (λ (j : LinesJudged). j .stage) e ∙ d))
+          (ap (allLined (a .stands .now)) n ∙ sym (c .before .before .before .before .all-lined .ensures) ∙ not-false _ (c .before .before .before .if3 .left)) k,
       record { track-range = omega arith; sum-range = omega arith },
     )
 

@@ -109,14 +109,14 @@ element-write-stands c = search needs
 
 returns-6 : tie.Need-returns-6
 returns-6 c =
-    let s = c .before .before .before .before .before .before .before .before .before .before in
+    let s = c .before .before .before .before .before .before .before .before .before .before .before .before in
     let a = s .args in
-    let e = c .before .before .before .before .before .before .before .settled .ensures in
-    let turn = sym (c .before .before .before .before .before .before .before .before .before .is-end-turn .ensures) ∙ not-false _ (c .before .before .before .before .before .before .before .before .if1 .left) in (
+    let e = c .before .before .before .before .before .before .before .before .before .settled .ensures in
+    let turn = sym (c .before .before .before .before .before .before .before .before .before .before .before .is-end-turn .ensures) ∙ not-false _ (c .before .before .before .before .before .before .before .before .before .before .if1 .left) in (
       λ job st acc is n k.
           loose-taken job (a .line) (a .m) (a .stands .now) acc (a .number) (a .index) n st (sym (loose-place job (a .tracks) is (a .m) (a .stands .now) st (a .number) k) ∙ turn)
-          (λ d. c .before .before .before .before .before .if2 .left (ap (λ (j : LinesJudged). j .stage) e ∙ d))
-          (new-loose (a .stands .now) (a .m) (a .number) (a .index) (c .before .before .before .before .if3 .left) (c .before .before .if4 .left) (omega (arith, c .if5 .left))) k,
+          (λ d. c .before .before .before .before .before .before .before .if2 .left (ap (λ (j : LinesJudged). j .stage) e ∙ d))
+          (new-loose (a .stands .now) (a .m) (a .number) (a .index) (c .before .before .before .before .before .before .if3 .left) (c .before .before .before .before .if4 .left) (omega (arith, c .before .before .if5 .left))) k,
       kept-range (a .line) _ (a .m) (s .pre .0 .0) (s .pre .1 .0) refl (omega arith),
     )
 

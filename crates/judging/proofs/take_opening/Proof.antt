@@ -21,9 +21,9 @@ unbegun-requires c κs = search needs
 
 returns-2 : tie.Need-returns-2
 returns-2 c =
-    let a = c .before .before .before .args in
-    rw (c .unbegun .ensures)
-    (λ job st stands k. opening-taken job (a .line) st (a .m) stands (omega (arith, c .before .if1 .left)) k, record { track-range = omega arith; sum-range = omega arith })
+    let a = c .before .before .before .before .before .args in
+    rw (c .before .before .unbegun .ensures)
+    (λ job st stands k. opening-taken job (a .line) st (a .m) stands (omega (arith, c .before .before .before .if1 .left)) k, record { track-range = omega arith; sum-range = omega arith })
 
 pub take-opening-spec : {M : Type 1} → statement M
 take-opening-spec = tie.close (tie.spec closed-requires returns unbegun-requires returns-2)

@@ -23,7 +23,7 @@ returns c =
     let turn = sym (c .before .before .is-track-turn .ensures) ∙ not-true _ (c .before .if1 .taken) in
     rw (c .closed .ensures) (
       λ job st stands is k.
-          closes-off job (a .line) st (track (a .track) (a .printed)) (a .m) stands k (sym (track-place job (a .tracks) is (a .m) stands st (a .track) (a .printed) k) ∙ turn),
+          closes-off job (a .line) st (track (a .track .0) (a .printed)) (a .m) stands k (sym (track-place job (a .tracks) is (a .m) stands st (a .track .0) (a .printed) k) ∙ turn),
       closed-range (a .line) (a .line) (a .m),
     )
 
@@ -38,7 +38,7 @@ returns-2 c =
     let turn = sym (c .before .before .before .before .is-track-turn .ensures) ∙ not-false _ (c .before .before .before .if1 .left) in
     rw e (
       λ job st stands is k.
-          track-off job (a .line) (a .m) stands st (a .track) (a .printed) (sym (track-place job (a .tracks) is (a .m) stands st (a .track) (a .printed) k) ∙ turn)
+          track-off job (a .line) (a .m) stands st (a .track .0) (a .printed) (sym (track-place job (a .tracks) is (a .m) stands st (a .track .0) (a .printed) k) ∙ turn)
           (ap (λ (j : LinesJudged). j .stage) (sym e) ∙ c .if2 .taken) k,
       settled-range (a .line) (a .m) (s .pre .0 .0) (s .pre .1 .0),
     )
@@ -50,9 +50,9 @@ returns-3 c =
     let e = c .before .before .settled .ensures in
     let turn = sym (c .before .before .before .before .is-track-turn .ensures) ∙ not-false _ (c .before .before .before .if1 .left) in (
       λ job st stands is k.
-          track-taken job (a .line) (a .m) stands st (a .track) (a .printed) (sym (track-place job (a .tracks) is (a .m) stands st (a .track) (a .printed) k) ∙ turn)
+          track-taken job (a .line) (a .m) stands st (a .track .0) (a .printed) (sym (track-place job (a .tracks) is (a .m) stands st (a .track .0) (a .printed) k) ∙ turn)
           (λ d. c .if2 .left (ap (λ (j : LinesJudged). j .stage) e ∙ d)) k,
-      turn-range (a .tracks) (a .line) (a .track) _ (a .m) (s .pre .1 .1) turn refl refl,
+      turn-range (a .tracks) (a .line) (a .track .0) _ (a .m) (s .pre .1 .1) turn refl refl,
     )
 
 pub take-track-spec : {M : Type 1} → statement M

@@ -42,7 +42,7 @@ returns-2 c =
     let turn = sym (c .before .before .before .before .is-wire-turn .ensures) ∙ not-false _ (c .before .before .before .if1 .left) in (
       λ job st w acc is f rd map k.
           wire-taken job (a .line) (a .m) (a .stands .now) st w _ _ _ (sym (wire-place job (a .board .tracks) (ap (λ (b : Board). b .tracks) is) (a .m) (a .stands .now) st w k) ∙ turn) k
-          (unknown-undrawn job acc w (a .found) f (a .m .track) (c .before .if2 .taken))
+          (unknown-undrawn job acc w (a .found) f (a .m .track .0) (c .before .if2 .taken))
           (λ m h. c .add-undrawn .ensures .0 job m w (a .stands .now) (a .stands .now) (unknown-worth job acc w (a .found) f (c .before .if2 .taken)) h),
       c .add-undrawn .ensures .1,
     )
@@ -78,7 +78,7 @@ add-drawn-requires c κs =
     let f = s .pre .1 .1 .0 in
     let l = s .pre .1 .1 .1 in
     let d = c .before .before .before .before .before .before .if2 .left in
-    let at = drawn-at (s .args .board) (s .args .m .track) (l .line .points) (s .args .found .net) _ _ (sym (c .before .before .top .given .1) ∙ c .before .before .before .before .drawn-place .ensures (l .line) (l .read) (l .number-is d)) in (
+    let at = drawn-at (s .args .board) (s .args .m .track .0) (l .line .points) (s .args .found .net) _ _ (sym (c .before .before .top .given .1) ∙ c .before .before .before .before .drawn-place .ensures (l .line) (l .read) (l .number-is d)) in (
       s .pre .0,
       (
         s .pre .1 .0,
@@ -93,7 +93,7 @@ returns-3 c =
     let turn = sym (c .before .before .before .before .before .before .before .before .before .is-wire-turn .ensures) ∙ not-false _ (c .before .before .before .before .before .before .before .before .if1 .left) in (
       λ job st w acc is f rd map k.
           wire-taken job (a .line) (a .m) (a .stands .now) st w _ _ _ (sym (wire-place job (a .board .tracks) (ap (λ (b : Board). b .tracks) is) (a .m) (a .stands .now) st w k) ∙ turn) k
-          (known-drawn job acc w (a .found) f (c .before .before .before .before .before .before .if2 .left) (a .m .track) ∙ ap (λ (b : Board). drawnOf b (a .m .track) (w .points) (a .found .net)) is ∙ place-none _ (sym (c .before .before .enum-told .given .1) ∙ c .before .before .before .before .drawn-place .ensures w rd (sym (found-number job acc w (a .found) f (c .before .before .before .before .before .before .if2 .left)))))
+          (known-drawn job acc w (a .found) f (c .before .before .before .before .before .before .if2 .left) (a .m .track .0) ∙ ap (λ (b : Board). drawnOf b (a .m .track .0) (w .points) (a .found .net)) is ∙ place-none _ (sym (c .before .before .enum-told .given .1) ∙ c .before .before .before .before .drawn-place .ensures w rd (sym (found-number job acc w (a .found) f (c .before .before .before .before .before .before .if2 .left)))))
           (λ m h. c .add-undrawn2 .ensures .0 job m w (a .stands .now) (a .stands .now) (known-worth job acc w (a .found) f (c .before .before .before .before .before .before .if2 .left) ∙ ap (λ (b : Board). worth b (a .found .net)) is ∙ sym (c .before .worth .ensures)) h),
       c .add-undrawn2 .ensures .1,
     )
@@ -105,7 +105,7 @@ returns-4 c =
     let turn = sym (c .before .before .before .before .before .before .before .before .before .before .is-wire-turn .ensures) ∙ not-false _ (c .before .before .before .before .before .before .before .before .before .if1 .left) in (
       λ job st w acc is f rd map k.
           wire-taken job (a .line) (a .m) (a .stands .now) st w _ _ _ (sym (wire-place job (a .board .tracks) (ap (λ (b : Board). b .tracks) is) (a .m) (a .stands .now) st w k) ∙ turn) k
-          (known-drawn job acc w (a .found) f (c .before .before .before .before .before .before .before .if2 .left) (a .m .track) ∙ ap (λ (b : Board). drawnOf b (a .m .track) (w .points) (a .found .net)) is ∙ (drawn-at (a .board) (a .m .track) (w .points) (a .found .net) _ _ (sym (c .before .before .before .top .given .1) ∙ c .before .before .before .before .before .drawn-place .ensures w rd (sym (found-number job acc w (a .found) f (c .before .before .before .before .before .before .before .if2 .left))))) .drawn-is)
+          (known-drawn job acc w (a .found) f (c .before .before .before .before .before .before .before .if2 .left) (a .m .track .0) ∙ ap (λ (b : Board). drawnOf b (a .m .track .0) (w .points) (a .found .net)) is ∙ (drawn-at (a .board) (a .m .track .0) (w .points) (a .found .net) _ _ (sym (c .before .before .before .top .given .1) ∙ c .before .before .before .before .before .drawn-place .ensures w rd (sym (found-number job acc w (a .found) f (c .before .before .before .before .before .before .before .if2 .left))))) .drawn-is)
           (λ m h. c .add-drawn .ensures .0 job m w acc is (f .net-is (c .before .before .before .before .before .before .before .if2 .left)) (found-number job acc w (a .found) f (c .before .before .before .before .before .before .before .if2 .left)) map (wire-range (a .board .tracks) (a .m) turn .0) h),
       c .add-drawn .ensures .1,
     )

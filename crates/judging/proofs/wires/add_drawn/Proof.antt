@@ -56,19 +56,19 @@ add-sum c =
 
 returns : tie.Need-returns
 returns c =
-    let s = c .before .before .before .before .before .before .before .before in
+    let s = c .before .before .before .before .before .before .before .before .before in
     let a = s .args in
     let fits = s .pre .1 .1 in
     let w = worth-range (a .board) (a .found .net) (fits .board-range) (fits .net-range .in-range) in (
       λ job m v acc is found numbered blocks begun h.
           drawn-kept job (a .line) (s .pre .0) m v (a .m) acc (a .found) found numbered (a .words .now) (a .stands .now) blocks begun (a .top .0) (a .shape) _ _ _
-          (c .before .worth .ensures ∙ ap (λ (b : Board). worth b (a .found .net)) (sym is))
-          (ap (λ (rows : ℕ). a .top .0 + rows - 1) (c .before .before .before .covered .ensures))
-          (c .before .before .before .before .first-breach .ensures ∙
+          (c .before .before .worth .ensures ∙ ap (λ (b : Board). worth b (a .found .net)) (sym is))
+          (ap (λ (rows : ℕ). a .top .0 + rows - 1) (c .before .before .before .before .covered .ensures))
+          (c .before .before .before .before .before .first-breach .ensures ∙
           ap (λ (passed : Bool). firstBreach (a .m .breach) passed (a .line))
-          (c .before .before .before .before .before .may-stand .ensures ∙ ap (λ (b : Board). isNextAt b (a .words .now) (a .stands .now) (a .found) (a .m) (a .top .0) (a .shape)) (sym is)))
+          (c .before .before .before .before .before .before .may-stand .ensures ∙ ap (λ (b : Board). isNextAt b (a .words .now) (a .stands .now) (a .found) (a .m) (a .top .0) (a .shape)) (sym is)))
           h,
-      kept-range (a .line) _ (a .m) (s .pre .0 .0) (s .pre .1 .0) refl (omega (arith, w, c .before .worth .ensures)),
+      kept-range (a .line) _ (a .m) (s .pre .0 .0) (s .pre .1 .0) refl (omega (arith, w, c .before .before .worth .ensures)),
     )
 
 pub add-drawn-spec : {M : Type 1} → statement M

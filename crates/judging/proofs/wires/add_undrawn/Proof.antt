@@ -15,9 +15,9 @@ add-t5 c = search needs
 
 returns : tie.Need-returns
 returns c =
-    let s = c .before .before in
+    let s = c .before .before .before .before in
     let a = s .args in
-    rw (c .before .first-breach .ensures) (
+    rw (c .before .before .before .first-breach .ensures) (
       λ job m w before after v h. undrawn-added job (a .line) (s .pre .0) m w (a .m) before after (a .worth) v h,
       kept-range (a .line) _ (a .m) (s .pre .0 .0) (s .pre .1 .0) refl (omega (arith, s .pre .1 .1)),
     )

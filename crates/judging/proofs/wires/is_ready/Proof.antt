@@ -8,7 +8,7 @@ use Rattle.judging.proofs.wires.is_ready.Tie as tie
 returns : tie.Need-returns
 returns c =
     let a = c .before .args in
-    sym (none-before (a .before) (a .stands .now) (a .track) (c .if1 .taken))
+    sym (none-before (a .before) (a .stands .now) (a .track .0) (c .if1 .taken))
 
 mul-above : tie.Need-mul-above
 mul-above c = search needs
@@ -19,12 +19,12 @@ element-copy-out-above c = search needs
 returns-2 : tie.Need-returns-2
 returns-2 c =
     let a = c .before .before .before .args in
-    sym (one-unlined (a .before) (a .stands .now) (a .track) (c .before .before .if1 .left) (c .if2 .taken))
+    sym (one-unlined (a .before) (a .stands .now) (a .track .0) (c .before .before .if1 .left) (c .if2 .taken))
 
 returns-3 : tie.Need-returns-3
 returns-3 c =
-    let a = c .before .before .before .args in
-    sym (one-lined (a .before) (a .stands .now) (a .track) (c .before .before .if1 .left) (c .if2 .left))
+    let a = c .before .before .before .before .args in
+    sym (one-lined (a .before) (a .stands .now) (a .track .0) (c .before .before .before .if1 .left) (c .before .if2 .left))
 
 pub is-ready-spec : {M : Type 1} → statement M
 is-ready-spec = tie.close (tie.spec returns mul-above element-copy-out-above returns-2 returns-3)

@@ -312,8 +312,8 @@ fn hostile_job(p: &mut Prng) -> (&'static str, Vec<u8>) {
         8 => ("a line many times", repeated_line(p, &text)),
         9 => ("a start of a job", text[..p.pick(0, text.len())].to_vec()),
         10 => ("upper case", text.to_ascii_uppercase()),
-        _ => ("a used pin", {
-            // a further net with the pin of another
+        _ => ("one more net", {
+            // a further net, whose pins another net may have already
             let at = text.len() - 2;
             let (left, right) = (p.pick(1, 9), p.pick(1, 9));
             let line = format!("(net 9999 {} {} 0 4095)\n", left, right).into_bytes();

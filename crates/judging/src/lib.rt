@@ -46,7 +46,8 @@ pub struct LinesJudged {
     pub breach: usize,
 }
 
-// A net of the job: its index there, and the index of the net that precedes it, 512 if there is none.
+// The net of a line: its index in the job, and the index of the net that precedes it, 512 if there is none. Index 512 stands for no net; what
+// is beside it then says nothing.
 pub struct NetFound {
     pub index: usize,
     pub net: Net,

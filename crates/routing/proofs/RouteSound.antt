@@ -165,7 +165,7 @@ route-sound job a =
     record {
       layout = routeLayout job;
       rendered = refl;
-      count = drawn-length job 1 plan ∙ count;
+      count = drawn-length job _ _ ∙ count;
       tracks = plan-tracks job rise allowed (job .board .tracks) 1 [];
       loose-rise = rises;
       each = λ n i. rw (drawn-numbers job 1 plan) (

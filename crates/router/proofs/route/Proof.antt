@@ -10,14 +10,6 @@ use Rattle.router.proofs.Answering.{refused-promised, small-promised, r
 use Rattle.router.proofs.route.Statement.{statement}
 use Rattle.router.proofs.route.Tie as tie
 
--- behind the test of the number: the job by value is an accepted one, and the text is read as it
-stored-at : (c : tie.After-stored) → AcceptedStored (c .before .before .before .read .result .job)
-stored-at c = let i = c .before in let n = i .before in given-stored _ _ _ (n .before .read .ensures .0) (n .number-of .ensures) (i .if1 .left)
-
-read-at : (c : tie.After-stored) →
-    readJob (now (c .before .before .before .before .before .before .args .job)) ≡ accepted (jobOf (c .before .before .before .read .result .job))
-read-at c = let i = c .before in let n = i .before in given-read _ _ _ (n .before .read .ensures .0) (n .number-of .ensures) (i .if1 .left)
-
 read-requires : tie.Need-read-requires
 read-requires c κs = search needs
 
@@ -28,6 +20,14 @@ returns : tie.Need-returns
 returns c =
     let n = c .before in
     refused-promised _ _ (now (n .before .before .before .before .args .out)) (given-refused _ _ _ (n .before .read .ensures .0) (n .number-of .ensures) (c .if1 .taken))
+
+-- behind the test of the number: the job by value is an accepted one, and the text is read as it
+stored-at : (c : tie.After-stored) → AcceptedStored (c .before .before .before .read .result .job)
+stored-at c = let i = c .before in let n = i .before in given-stored _ _ _ (n .before .read .ensures .0) (n .number-of .ensures) (i .if1 .left)
+
+read-at : (c : tie.After-stored) →
+    readJob (now (c .before .before .before .before .before .before .args .job)) ≡ accepted (jobOf (c .before .before .before .read .result .job))
+read-at c = let i = c .before in let n = i .before in given-read _ _ _ (n .before .read .ensures .0) (n .number-of .ensures) (i .if1 .left)
 
 plan-job-requires : tie.Need-plan-job-requires
 plan-job-requires c κs = stored-at c

@@ -120,9 +120,9 @@ fn judge_lines<'a>(
 
 // Checks a layout text for a job: the job first, then the length of the text, then its lines.
 pub fn check(job: &[u8], layout: &[u8]) -> CheckAnswer
-    ensures { λ r. ⌜ r ≡ checkAnswer (readJob (now (job .entry))) (now (layout .entry)) ⌝ }
-    ensures { λ r. ⌜ checkValues r ≡ documentVerdict (readJob (now (job .entry))) (now (layout .entry)) ⌝ }
-    ensures { λ r. ⌜ RightVerdict (now (job .entry)) (now (layout .entry)) r ⌝ }
+    ensures answer { λ r. ⌜ r ≡ checkAnswer (readJob (now (job .entry))) (now (layout .entry)) ⌝ }
+    ensures values { λ r. ⌜ checkValues r ≡ documentVerdict (readJob (now (job .entry))) (now (layout .entry)) ⌝ }
+    ensures right { λ r. ⌜ RightVerdict (now (job .entry)) (now (layout .entry)) r ⌝ }
 {
     let answer = reader::read(job);
     let outcome = answer.outcome;

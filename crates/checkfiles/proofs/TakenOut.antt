@@ -6,7 +6,7 @@ use Rattle.jobfile.specs.Read.{readJob}
 use Rattle.checker.specs.Answers.{checkAnswer}
 use Rattle.verdicts.specs.Verdicts.{checkText}
 use Rattle.files.specs.FileTexts.{textOf}
-use Rattle.files.proofs.Reading.{start-written}
+use Rattle.text.proofs.Writing.{start-written}
 use Rattle.checkfiles.specs.declared.CheckedFiles.{CheckedFiles}
 use Rattle.checkfiles.specs.LineOfFiles.{LineOfFiles}
 

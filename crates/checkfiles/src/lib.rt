@@ -15,10 +15,10 @@ pub struct CheckedFiles {
 
 // Checks the layout of one file for the job of another. The texts come back with the line, so that the contract can say whose verdict it is.
 pub fn checked_files(job_path: &[u8], layout_path: &[u8]) -> CheckedFiles
-    ensures { λ r. ⌜ ReadText (r .job) ⌝ }
-    ensures { λ r. ⌜ ReadText (r .layout) ⌝ }
-    ensures { λ r. ⌜ LineOfFiles r ⌝ }
-    ensures { λ r. ⌜ Counts (r .line .used) (r .line .bytes) ⌝ }
+    ensures job { λ r. ⌜ ReadText (r .job) ⌝ }
+    ensures layout { λ r. ⌜ ReadText (r .layout) ⌝ }
+    ensures line { λ r. ⌜ LineOfFiles r ⌝ }
+    ensures counts { λ r. ⌜ Counts (r .line .used) (r .line .bytes) ⌝ }
 {
     let job = files::file_text(job_path);
     let layout = files::file_text(layout_path);

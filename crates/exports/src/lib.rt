@@ -21,12 +21,12 @@ pub extern "C" fn hankuribo_route(
     line: &mut usize,
     bytes: &mut usize,
 ) -> usize
-    ensures { λ r. ⌜ RepliesWith (routeAnswer (readJob (now (job .entry))) (length (now (out .entry)))) r (now (line .exit)) (now (bytes .exit)) ⌝ }
-    ensures { λ _. ⌜ RightFor (now (job .entry)) (routeAnswer (readJob (now (job .entry))) (length (now (out .entry)))) ⌝ }
-    ensures { λ _. ⌜ now (out .exit) ≡ bufferAfter (readJob (now (job .entry))) (now (out .entry)) ⌝ }
-    ensures { λ _. ⌜ OfWritten (λ j text. ShortestText j (planOf j) text) (readJob (now (job .entry))) (routeAnswer (readJob (now (job .entry))) (length (now (out .entry)))) (now (out .exit)) ⌝ }
-    ensures { λ _. ⌜ OfWritten (λ j text. Sound j text) (readJob (now (job .entry))) (routeAnswer (readJob (now (job .entry))) (length (now (out .entry)))) (now (out .exit)) ⌝ }
-    ensures { λ _. ⌜ OfWritten (λ j text. UnbeatenText j text) (readJob (now (job .entry))) (routeAnswer (readJob (now (job .entry))) (length (now (out .entry)))) (now (out .exit)) ⌝ }
+    ensures answer { λ r. ⌜ RepliesWith (routeAnswer (readJob (now (job .entry))) (length (now (out .entry)))) r (now (line .exit)) (now (bytes .exit)) ⌝ }
+    ensures right { λ _. ⌜ RightFor (now (job .entry)) (routeAnswer (readJob (now (job .entry))) (length (now (out .entry)))) ⌝ }
+    ensures buffer { λ _. ⌜ now (out .exit) ≡ bufferAfter (readJob (now (job .entry))) (now (out .entry)) ⌝ }
+    ensures shortest { λ _. ⌜ OfWritten (λ j text. ShortestText j (planOf j) text) (readJob (now (job .entry))) (routeAnswer (readJob (now (job .entry))) (length (now (out .entry)))) (now (out .exit)) ⌝ }
+    ensures sound { λ _. ⌜ OfWritten (λ j text. Sound j text) (readJob (now (job .entry))) (routeAnswer (readJob (now (job .entry))) (length (now (out .entry)))) (now (out .exit)) ⌝ }
+    ensures unbeaten { λ _. ⌜ OfWritten (λ j text. UnbeatenText j text) (readJob (now (job .entry))) (routeAnswer (readJob (now (job .entry))) (length (now (out .entry)))) (now (out .exit)) ⌝ }
 {
     let answer = router::route(job, out);
     *line = router::answer_line(answer);
@@ -54,8 +54,8 @@ pub extern "C" fn hankuribo_check(
     line: &mut usize,
     broken: &mut usize,
 ) -> usize
-    ensures { λ r. ⌜ CheckRepliesWith (checkAnswer (readJob (now (job .entry))) (now (layout .entry))) r (now (line .exit)) (now (broken .exit)) ⌝ }
-    ensures { λ _. ⌜ RightVerdict (now (job .entry)) (now (layout .entry)) (checkAnswer (readJob (now (job .entry))) (now (layout .entry))) ⌝ }
+    ensures answer { λ r. ⌜ CheckRepliesWith (checkAnswer (readJob (now (job .entry))) (now (layout .entry))) r (now (line .exit)) (now (broken .exit)) ⌝ }
+    ensures right { λ _. ⌜ RightVerdict (now (job .entry)) (now (layout .entry)) (checkAnswer (readJob (now (job .entry))) (now (layout .entry))) ⌝ }
 {
     let answer = checker::check(job, layout);
     *line = checker::check_line(answer);
@@ -78,7 +78,7 @@ fn add_up(sums: [usize; 128]) -> usize
 // Reads a job: the number of its refusal, 0 where it is accepted.
 #[no_mangle]
 pub extern "C" fn hankuribo_read(text: &[u8]) -> usize
-    ensures { λ r. ⌜ r ≡ refusalOf (readJob (now (text .entry))) ⌝ }
+    ensures answer { λ r. ⌜ r ≡ refusalOf (readJob (now (text .entry))) ⌝ }
 {
     let answer = reader::read(text);
     let outcome = answer.outcome;
@@ -88,7 +88,7 @@ pub extern "C" fn hankuribo_read(text: &[u8]) -> usize
 // Reads a job and plans it: the sums of all its tracks, added up; 0 where it is refused.
 #[no_mangle]
 pub extern "C" fn hankuribo_plan(text: &[u8]) -> usize
-    ensures { λ r. ⌜ r ≡ planSum (readJob (now (text .entry))) ⌝ }
+    ensures answer { λ r. ⌜ r ≡ planSum (readJob (now (text .entry))) ⌝ }
 {
     let answer = reader::read(text);
     let found = answer.outcome;

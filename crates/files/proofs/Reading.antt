@@ -5,13 +5,13 @@ use mathlib.Core.Path.{_≡_, refl, sym}
 use mathlib.Core.Bool.{false}
 use mathlib.Core.List.{List}
 use native.Mathlib.Omega.{arith}
-use lib.ListN.{length, take, drop}
+use lib.ListN.{length, take}
 use lib.IntN.{ℤ, pos, negsuc}
-use lib.Seq.{take-append-seam, length-take-le}
+use lib.Seq.{length-take-le}
 use lib.Signed.{ltZ}
 use Rattle.io.specs.Counts.{Counts}
 use Rattle.text.specs.Written.{Written}
-use Rattle.text.proofs.Writing.{kept}
+use Rattle.text.proofs.Writing.{kept, start-written}
 use Rattle.files.specs.Unopened.{EmptyUnopened}
 
 pub nothing-read : (fd : ℤ) → EmptyUnopened fd 0
@@ -21,10 +21,6 @@ nothing-read (negsuc k) = refl
 pub opened : (fd : ℤ) (r : ℕ) → ltZ fd (pos 0) ≡ false → EmptyUnopened fd r
 opened (pos k) r e = tt
 opened (negsuc k) r e = cc
-
--- the text that was written is the start of the buffer
-pub start-written : {w s t : List ℕ} {r : ℕ} → Written w s t r → take r t ≡ w
-start-written {w} {s} {t} {r} x = rw (x .bytes, x .used) (take-append-seam w (drop (length w) s))
 
 pub written-start : {w s t : List ℕ} {r : ℕ} → Written w s t r → Written (take r t) s t r
 written-start x = rw (start-written x) x

@@ -23,9 +23,9 @@ fn lesser(a: usize, b: usize) -> usize
 // Reads an open file into a buffer, as far as it fits and at most 65,536 bytes, closes it, and returns the bytes read. A number below 0 is
 // no open file, and counts as an empty one. The bytes go through a buffer of its own, so that those behind what was read are kept.
 pub fn read_from(fd: i32, out: &mut [u8]) -> usize
-    ensures { λ r. ⌜ Counts r (now (out .exit)) ⌝ }
-    ensures { λ r. ⌜ Written (take r (now (out .exit))) (now (out .entry)) (now (out .exit)) r ⌝ }
-    ensures { λ r. ⌜ EmptyUnopened fd r ⌝ }
+    ensures counts { λ r. ⌜ Counts r (now (out .exit)) ⌝ }
+    ensures written { λ r. ⌜ Written (take r (now (out .exit))) (now (out .entry)) (now (out .exit)) r ⌝ }
+    ensures unopened { λ r. ⌜ EmptyUnopened fd r ⌝ }
 {
     if fd < 0 {
         return 0;
@@ -39,9 +39,9 @@ pub fn read_from(fd: i32, out: &mut [u8]) -> usize
 
 // Reads an open file. A number below 0 is none, and counts as an empty one.
 pub fn text_from(fd: i32) -> FileText
-    ensures { λ r. ⌜ ReadText r ⌝ }
-    ensures { λ r. ⌜ Counts (r .used) (r .bytes) ⌝ }
-    ensures { λ r. ⌜ EmptyUnopened fd (r .used) ⌝ }
+    ensures read { λ r. ⌜ ReadText r ⌝ }
+    ensures counts { λ r. ⌜ Counts (r .used) (r .bytes) ⌝ }
+    ensures unopened { λ r. ⌜ EmptyUnopened fd (r .used) ⌝ }
 {
     let mut bytes = [0u8; 64001];
     let used = read_from(fd, &mut bytes);
@@ -50,8 +50,8 @@ pub fn text_from(fd: i32) -> FileText
 
 // Reads the file of a name. One that can't be opened counts as empty.
 pub fn file_text(path: &[u8]) -> FileText
-    ensures { λ r. ⌜ ReadText r ⌝ }
-    ensures { λ r. ⌜ Counts (r .used) (r .bytes) ⌝ }
+    ensures read { λ r. ⌜ ReadText r ⌝ }
+    ensures counts { λ r. ⌜ Counts (r .used) (r .bytes) ⌝ }
 {
     text_from(os::open_read(path))
 }

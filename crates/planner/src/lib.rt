@@ -118,8 +118,8 @@ fn no_progress() -> Progress
 // The plan of a job: its tracks filled in order 1 to K. No track of it is beaten, and each wire is at its shortest length.
 pub fn plan_job(job: StoredJob) -> JobPlan
     requires { ⌜ AcceptedStored job ⌝ }
-    ensures { λ r. ⌜ r ≡ jobPlanOf (jobOf job) ⌝ }
-    ensures { λ r. ⌜ BestPlan (jobOf job) r ⌝ }
+    ensures answer { λ r. ⌜ r ≡ jobPlanOf (jobOf job) ⌝ }
+    ensures best { λ r. ⌜ BestPlan (jobOf job) r ⌝ }
 {
     let before = preceding(job);
     let mut flags = [0u8; 524288];

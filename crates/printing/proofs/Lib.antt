@@ -1,2 +1,3 @@
 -- Laws of what the programs print.
 pub mod Printing
+pub mod TakenOut

@@ -5,21 +5,33 @@ use mathlib.Core.List.{List}
 use native.Mathlib.Omega.{arith}
 use mathlib.Core.Bool.{true}
 use lib.Dec.{leb}
-use lib.ListN.{length, replicate, length-replicate}
+use lib.ListN.{length, replicate, take}
 use borrow.Author.Tests.{le-leb}
 use Rattle.board.specs.Job.{Job}
 use Rattle.text.specs.Written.{Written, over}
-use Rattle.text.proofs.Writing.{kept}
+use Rattle.text.proofs.Writing.{start-written}
 use Rattle.jobfile.specs.Read.{Read, accepted, refused, readJob}
 use Rattle.jobfile.proofs.Accepts.{read-accepted}
 use Rattle.jobfile.proofs.Refusals.{read-refused, fault-from}
+use Rattle.planning.specs.Plan.{planOf}
+use Rattle.sound.specs.Sound.{Sound}
 use Rattle.reader.specs.Reports.{refusedText}
 use Rattle.reader.proofs.Reports.{refused-short}
 use Rattle.routing.specs.Route.{routeText}
-use Rattle.routing.proofs.RouteUnbeaten.{route-length}
+use Rattle.routing.specs.Promises.{ShortestText, UnbeatenText}
+use Rattle.routing.proofs.RouteSound.{route-sound}
+use Rattle.routing.proofs.RouteUnbeaten.{route-length, route-drawn, route-unbeaten}
 use Rattle.router.specs.declared.RouteAnswer.{RouteAnswer}
 use Rattle.router.specs.Answers.{RouteValues, routeValues, routeAnswer, bufferAfter}
-use Rattle.printing.specs.Printed.{printedText}
+use Rattle.printing.specs.Printed.{printedText, OfLayout}
+
+-- all that is promised of what is printed: the bytes t, of which the first r are printed
+abbrev pub Promised : List ℕ → List ℕ → ℕ → Type 0
+Promised text t r =
+    Written (printedText (readJob text)) (replicate 64000 0) t r ×
+    (OfLayout (λ j l. ShortestText j (planOf j) l) (readJob text) (take r t) ×
+    (OfLayout (λ j l. Sound j l) (readJob text) (take r t) ×
+    OfLayout (λ j l. UnbeatenText j l) (readJob text) (take r t)))
 
 module _ (before : List ℕ) (room : length before ≡ 64000) where
   -- every layout fits
@@ -62,14 +74,15 @@ module _ (before : List ℕ) (room : length before ≡ 64000) where
           let t : refusedText n l ≡ printedText (readJob text) = (rw (number-is, h, e)) ∙ x .1 .1 in
           record { used = w .used ∙ ap length t; bytes = w .bytes ∙ ap₂ over t (f ∙ x .1 .0) }
 
--- what is printed stands within its bytes
-printed-short : (text : List ℕ) (y : Read) → readJob text ≡ y → length (printedText y) ≤ 64000
+-- demands 2 and 3 on what is printed, by what the text is read as
+demanded : (text : List ℕ) (y : Read) → readJob text ≡ y → (bytes : List ℕ) → bytes ≡ printedText y →
+    OfLayout (λ j l. ShortestText j (planOf j) l) y bytes × (OfLayout (λ j l. Sound j l) y bytes × OfLayout (λ j l. UnbeatenText j l) y bytes)
 unfolding printedText
-printed-short text (accepted job) e = route-length job (read-accepted text job e)
-printed-short text (refused o) e = omega (arith, refused-short text o e)
+demanded text (accepted job) e bytes w =
+    let a = read-accepted text job e in
+    rw w (route-drawn job a, (route-sound job a, route-unbeaten job a))
+demanded text (refused o) e bytes w = (tt, (tt, tt))
 
-pub printed-within : (text : List ℕ) {t : List ℕ} {r : ℕ} → Written (printedText (readJob text)) (replicate 64000 0) t r → r ≤ length t
-printed-within text w =
-    let h = printed-short text (readJob text) refl in
-    let e = length-replicate {A = ℕ} 64000 0 in
-    omega (arith, w .used, kept w (omega arith))
+-- what is printed keeps all that is promised of it
+pub promised : (text : List ℕ) {t : List ℕ} {r : ℕ} → Written (printedText (readJob text)) (replicate 64000 0) t r → Promised text t r
+promised text w = (w, demanded text (readJob text) refl _ (start-written w))

@@ -1,8 +1,11 @@
 // What the program `route` prints.
-ghost use lib.ListN.{replicate};
+ghost use lib.ListN.{replicate, take};
 ghost use Rattle.text.specs.Written.{Written};
 ghost use Rattle.jobfile.specs.Read.{readJob};
-ghost use Rattle.printing.specs.Printed.{printedText};
+ghost use Rattle.planning.specs.Plan.{planOf};
+ghost use Rattle.sound.specs.Sound.{Sound};
+ghost use Rattle.routing.specs.Promises.{ShortestText, UnbeatenText};
+ghost use Rattle.printing.specs.Printed.{printedText, OfLayout};
 
 // A text to print: the first `used` bytes. There is room for every layout, so what is printed is never cut.
 pub struct Printed {
@@ -12,7 +15,10 @@ pub struct Printed {
 
 // Routes a job, and gives what the program prints for it: the layout, or the line of the refusal.
 pub fn print_route(job: &[u8]) -> Printed
-    ensures { λ r. ⌜ Written (printedText (readJob (now (job .entry)))) (replicate 64000 0) (r .bytes) (r .used) ⌝ }
+    ensures printed { λ r. ⌜ Written (printedText (readJob (now (job .entry)))) (replicate 64000 0) (r .bytes) (r .used) ⌝ }
+    ensures shortest { λ r. ⌜ OfLayout (λ j text. ShortestText j (planOf j) text) (readJob (now (job .entry))) (take (r .used) (r .bytes)) ⌝ }
+    ensures sound { λ r. ⌜ OfLayout (λ j text. Sound j text) (readJob (now (job .entry))) (take (r .used) (r .bytes)) ⌝ }
+    ensures unbeaten { λ r. ⌜ OfLayout (λ j text. UnbeatenText j text) (readJob (now (job .entry))) (take (r .used) (r .bytes)) ⌝ }
 {
     let mut bytes = [0u8; 64000];
     let answer = router::route(job, &mut bytes);

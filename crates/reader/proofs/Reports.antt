@@ -5,14 +5,13 @@ use mathlib.Core.Bool.{Bool}
 use mathlib.Core.List.{List, [], _∷_, _++_, append-assoc}
 use Prim.Native.Nat.{ℕ, suc, _+_, _≤_}
 use native.Mathlib.Omega.{arith}
-use lib.Dec.{eqb, leb}
+use lib.Dec.{leb}
 use lib.ListN.{length, length-append}
-use borrow.Author.Tests.{leb-true, eqb-true, eqb-false}
+use borrow.Author.Tests.{leb-true}
 use Rattle.lists.proofs.Cases.{by-test}
 use Rattle.text.specs.Bytes.{isEnd, joined, pieces, lines}
 use Rattle.text.specs.Digits.{digits}
 use Rattle.text.proofs.Numbers.{length-digits}
-use Rattle.text.proofs.Writing.{kept}
 use Rattle.text.specs.Written.{Written}
 use Rattle.jobfile.specs.declared.Answer.{Answer}
 use Rattle.jobfile.specs.declared.Outcome.{Outcome}
@@ -135,18 +134,6 @@ zero-accepted (TooFewRows k) e = absurd (omega arith)
 accepted-report : (text : List ℕ) → numberOf (answerOf (readJob text) .outcome) ≡ 0 → acceptedText ≡ reportText (readJob text)
 unfolding reportText
 accepted-report text e = rw (returned-job text (zero-accepted (answerOf (readJob text) .outcome) e))
-
--- it is short
-report-short : (text : List ℕ) → length (reportText (readJob text)) ≤ 32
-report-short text =
-    let o = answerOf (readJob text) .outcome in
-    by-test (eqb (numberOf o) 0)
-    (λ e. rw (← accepted-report text (eqb-true (numberOf o) 0 e)) (omega arith))
-    (λ e. rw (← refused-report (readJob text) (eqb-false (numberOf o) 0 e)) (refused-room o (line-most text)))
-
--- so its bytes lie within a buffer of 32
-pub report-within : (text : List ℕ) {s t : List ℕ} {r : ℕ} → Written (reportText (readJob text)) s t r → 32 ≤ length s → r ≤ length t
-report-within text w h = omega (arith, w .used, report-short text, kept w (omega (arith, report-short text)))
 
 -- what was written is the line of the text's reading, where `a` is its answer
 module _ (text : List ℕ) (a : Answer) (n : ℕ) (e : a ≡ answerOf (readJob text)) (f : n ≡ numberOf (a .outcome)) where

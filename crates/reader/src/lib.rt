@@ -91,8 +91,8 @@ fn read_lines(text: &[u8]) -> Answer
 
 // Reads a job: the length first, then line by line.
 pub fn read(text: &[u8]) -> Answer
-    ensures { λ r. ⌜ r ≡ answerOf (readJob (now (text .entry))) ⌝ }
-    ensures { λ r. ⌜ RightAnswer (now (text .entry)) r ⌝ }
+    ensures answer { λ r. ⌜ r ≡ answerOf (readJob (now (text .entry))) ⌝ }
+    ensures right { λ r. ⌜ RightAnswer (now (text .entry)) r ⌝ }
 {
     if 64000 < text.len() {
         return refusal(Outcome::TooLong);

@@ -5,7 +5,10 @@ use libc::STDOUT_FILENO;
 use printing::Printed;
 ghost use Rattle.io.specs.Counts.{Counts};
 ghost use Rattle.files.specs.FileTexts.{ReadText};
-ghost use Rattle.routeinput.specs.InputPrinted.{InputPrinted};
+ghost use Rattle.planning.specs.Plan.{planOf};
+ghost use Rattle.sound.specs.Sound.{Sound};
+ghost use Rattle.routing.specs.Promises.{ShortestText, UnbeatenText};
+ghost use Rattle.routeinput.specs.InputPrinted.{InputPrinted, OfInput};
 
 // The job as it was read, and what is printed for it.
 pub struct RoutedInput {
@@ -15,9 +18,12 @@ pub struct RoutedInput {
 
 // Routes the job on standard input. Its text comes back with what is printed, so that the contract can say whose layout or refusal that is.
 pub fn routed_input() -> RoutedInput
-    ensures { λ r. ⌜ ReadText (r .job) ⌝ }
-    ensures { λ r. ⌜ InputPrinted r ⌝ }
-    ensures { λ r. ⌜ Counts (r .printed .used) (r .printed .bytes) ⌝ }
+    ensures read { λ r. ⌜ ReadText (r .job) ⌝ }
+    ensures printed { λ r. ⌜ InputPrinted r ⌝ }
+    ensures shortest { λ r. ⌜ OfInput (λ j text. ShortestText j (planOf j) text) r ⌝ }
+    ensures sound { λ r. ⌜ OfInput (λ j text. Sound j text) r ⌝ }
+    ensures unbeaten { λ r. ⌜ OfInput (λ j text. UnbeatenText j text) r ⌝ }
+    ensures counts { λ r. ⌜ Counts (r .printed .used) (r .printed .bytes) ⌝ }
 {
     let job = files::text_from(STDIN_FILENO);
     let job_bytes = job.bytes;

@@ -1,15 +1,17 @@
 -- What route promises, for each way that it ends: refused as read does, too small a buffer, the layout written. Assumes nothing.
 use Prim.Native.Nat.{ℕ, _≤_, _<_}
 use mathlib.Core.Path.{_≡_, refl, ap, _∙_}
-use mathlib.Core.List.{List, [], _∷_, _++_}
+use mathlib.Core.List.{List}
 use native.Mathlib.Omega.{arith}
 use lib.ListN.{length, take, drop}
+use lib.Seq.{take-append-seam}
 use borrow.Author.Tests.{le-leb, lt-leb}
 use Rattle.board.specs.declared.StoredJob.{StoredJob}
 use Rattle.board.specs.Job.{Job}
 use Rattle.board.specs.Accepted.{AcceptedJob}
 use Rattle.board.specs.Stored.{jobOf, AcceptedStored}
-use Rattle.text.specs.Written.{Written}
+use Rattle.text.specs.Written.{over, Written}
+use Rattle.text.proofs.Writing.{start-written}
 use Rattle.jobfile.specs.declared.Outcome.{Outcome}
 use Rattle.jobfile.specs.Read.{accepted, refused, readJob}
 use Rattle.jobfile.specs.Faults.{Fault}
@@ -43,11 +45,6 @@ pub refused-promised : (job : List ℕ) (o : Outcome) (before : List ℕ) → re
 unfolding routeAnswer documentValues bufferAfter
 refused-promised job o before e = let f = read-refused job o e in rw e (refl, (refl, (f, (refl, (tt, (tt, tt))))))
 
--- the text at the start of what it stands before
-taken : (text s : List ℕ) → take (length text) (text ++ s) ≡ text
-taken [] s = refl
-taken (b ∷ text) s = ap (λ l. b ∷ l) (taken text s)
-
 module _ (text : List ℕ) (job : Job) (e : readJob text ≡ accepted job) (a : AcceptedJob job) (before : List ℕ) where
   -- the text has no fault, and the layout is short
   right : ((o : Outcome) → Fault text o → ⊥) × (length (routeText job) ≤ 64000)
@@ -58,12 +55,15 @@ module _ (text : List ℕ) (job : Job) (e : readJob text ≡ accepted job) (a : 
   small-promised n w l =
       rw (e, w, lt-leb (length (routeText job)) (length before) (omega arith)) (refl, (refl, (right, (refl, (tt, (tt, tt))))))
 
-  pub routed-promised : (n : ℕ) (after : List ℕ) → Written (routeText job) before after n → length (routeText job) ≤ length before → Promised text before (Routed n) after
+  -- demands 2 and 3 on the bytes that are route's text
+  demanded : (bytes : List ℕ) → bytes ≡ routeText job → ShortestText job (planOf job) bytes × (Sound job bytes × UnbeatenText job bytes)
+  demanded bytes w = rw w (route-drawn job a, (route-sound job a, route-unbeaten job a))
+
+  pub routed-promised : (n : ℕ) (after : List ℕ) → n ≡ length (routeText job) → after ≡ over (routeText job) before → n ≤ length before → Promised text before (Routed n) after
   unfolding routeAnswer documentValues bufferAfter
-  routed-promised n after w l =
-      let t = taken (routeText job) (drop (length (routeText job)) before) in
-      rw (e, w .used, w .bytes, le-leb (length (routeText job)) (length before) l, t)
-      (refl, (refl, (right, (refl, (route-drawn job a, (route-sound job a, route-unbeaten job a))))))
+  routed-promised n after u w l =
+      rw (e, u, w, le-leb (length (routeText job)) (length before) (omega arith))
+      (refl, (refl, (right, (refl, demanded _ (take-append-seam (routeText job) (drop (length (routeText job)) before))))))
 
 -- the plan of an accepted job can be drawn, its text is the one that route writes, and that is short
 module _ (stored : StoredJob) (a : AcceptedStored stored) (plan : JobPlan) (p : plan ≡ jobPlanOf (jobOf stored)) where
@@ -76,5 +76,14 @@ module _ (stored : StoredJob) (a : AcceptedStored stored) (plan : JobPlan) (p : 
   pub plan-short : length (planText (jobOf stored) plan) ≤ 64000
   plan-short = rw plan-text (route-length (jobOf stored) (a .accepted))
 
-  pub plan-written : {before after : List ℕ} {n : ℕ} → Written (planText (jobOf stored) plan) before after n → Written (routeText (jobOf stored)) before after n
-  plan-written w = rw plan-text at w
+  module _ {blank drawn : List ℕ} {n : ℕ} (d : Written (planText (jobOf stored) plan) blank drawn n) where
+    -- what was drawn is the text that route writes, and has its length
+    pub drawn-length : n ≡ length (routeText (jobOf stored))
+    drawn-length = d .used ∙ ap length plan-text
+
+    drawn-text : take n drawn ≡ routeText (jobOf stored)
+    drawn-text = start-written d ∙ plan-text
+
+    -- what was copied from there into the lent buffer
+    pub copied : {before after : List ℕ} {r : ℕ} → Written (take n drawn) before after r → after ≡ over (routeText (jobOf stored)) before
+    copied {before} w = w .bytes ∙ ap (λ (text : List ℕ). over text before) drawn-text

@@ -51,16 +51,16 @@ pub fn answer_bytes(answer: RouteAnswer) -> usize
     }
 }
 
-// Routes a job into a buffer. The layout is drawn into a buffer of its own first, which every layout fits, so that its length is known
-// before a byte is written.
+// Routes a job into a buffer. The layout is drawn into a buffer of its own, which every layout fits, so that its length is known before a
+// byte of the lent one is written; then its text is copied there.
 pub fn route(job: &[u8], out: &mut [u8]) -> RouteAnswer
-    ensures { λ r. ⌜ r ≡ routeAnswer (readJob (now (job .entry))) (length (now (out .entry))) ⌝ }
-    ensures { λ r. ⌜ routeValues r ≡ documentValues (readJob (now (job .entry))) (length (now (out .entry))) ⌝ }
-    ensures { λ r. ⌜ RightFor (now (job .entry)) r ⌝ }
-    ensures { λ r. ⌜ now (out .exit) ≡ bufferAfter (readJob (now (job .entry))) (now (out .entry)) ⌝ }
-    ensures { λ r. ⌜ OfWritten (λ j text. ShortestText j (planOf j) text) (readJob (now (job .entry))) r (now (out .exit)) ⌝ }
-    ensures { λ r. ⌜ OfWritten (λ j text. Sound j text) (readJob (now (job .entry))) r (now (out .exit)) ⌝ }
-    ensures { λ r. ⌜ OfWritten (λ j text. UnbeatenText j text) (readJob (now (job .entry))) r (now (out .exit)) ⌝ }
+    ensures answer { λ r. ⌜ r ≡ routeAnswer (readJob (now (job .entry))) (length (now (out .entry))) ⌝ }
+    ensures values { λ r. ⌜ routeValues r ≡ documentValues (readJob (now (job .entry))) (length (now (out .entry))) ⌝ }
+    ensures right { λ r. ⌜ RightFor (now (job .entry)) r ⌝ }
+    ensures buffer { λ r. ⌜ now (out .exit) ≡ bufferAfter (readJob (now (job .entry))) (now (out .entry)) ⌝ }
+    ensures shortest { λ r. ⌜ OfWritten (λ j text. ShortestText j (planOf j) text) (readJob (now (job .entry))) r (now (out .exit)) ⌝ }
+    ensures sound { λ r. ⌜ OfWritten (λ j text. Sound j text) (readJob (now (job .entry))) r (now (out .exit)) ⌝ }
+    ensures unbeaten { λ r. ⌜ OfWritten (λ j text. UnbeatenText j text) (readJob (now (job .entry))) r (now (out .exit)) ⌝ }
 {
     let answer = reader::read(job);
     let outcome = answer.outcome;
@@ -69,10 +69,11 @@ pub fn route(job: &[u8], out: &mut [u8]) -> RouteAnswer
     }
     let stored = answer.job;
     let plan = planner::plan_job(stored);
-    let mut measured = [0u8; 64000];
-    let needed = drawer::draw(stored, plan, &mut measured);
+    let mut drawn = [0u8; 64000];
+    let needed = drawer::draw(stored, plan, &mut drawn);
     if out.len() < needed {
         return RouteAnswer::TooSmall(needed);
     }
-    RouteAnswer::Routed(drawer::draw(stored, plan, out))
+    text::put_bytes(out, &drawn[..needed]);
+    RouteAnswer::Routed(needed)
 }

@@ -28,6 +28,14 @@ kept-at e h = ap length (e .bytes) ∙ simp lengths (omega arith)
 pub kept-behind : {w s t : List ℕ} {r : ℕ} → Written w s t r → drop r t ≡ drop r s
 kept-behind {w} {s} {t} {r} e = rw (e .bytes, e .used) (drop-append-seam w (drop (length w) s))
 
+-- The text stands at the start of the buffer, and within it
+
+pub start-written : {w s t : List ℕ} {r : ℕ} → Written w s t r → take r t ≡ w
+start-written {w} {s} {t} {r} e = rw (e .bytes, e .used) (take-append-seam w (drop (length w) s))
+
+pub written-within : {w s t : List ℕ} {r : ℕ} → Written w s t r → r ≤ length t
+written-within {w} {s} e = omega (arith, e .used, ap length (e .bytes), length-append w (drop (length w) s))
+
 -- Nothing written
 
 pub written-none : (s : List ℕ) → Written [] s s 0

@@ -39,8 +39,8 @@ fn put_verdict(out: &mut [u8], number: usize, broken: bool, line: usize) -> usiz
 
 // Checks a layout for a job, and gives what the program prints: `(sound)`, `(broken line)` or `(refused number line)`.
 pub fn print_check(job: &[u8], layout: &[u8]) -> PrintedLine
-    ensures { λ r. ⌜ Written (checkText (checkAnswer (readJob (now (job .entry))) (now (layout .entry)))) (replicate 64 0) (r .bytes) (r .used) ⌝ }
-    ensures { λ r. ⌜ r .used ≤ length (r .bytes) ⌝ }
+    ensures printed { λ r. ⌜ Written (checkText (checkAnswer (readJob (now (job .entry))) (now (layout .entry)))) (replicate 64 0) (r .bytes) (r .used) ⌝ }
+    ensures within { λ r. ⌜ r .used ≤ length (r .bytes) ⌝ }
 {
     let answer = checker::check(job, layout);
     let number = checker::check_number(answer);

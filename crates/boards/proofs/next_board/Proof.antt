@@ -2,7 +2,7 @@
 use Prim.Native.Nat.{_≤_}
 use native.Mathlib.Omega.{arith}
 use lib.ListN.{length, length-take}
-use Rattle.printing.proofs.Printing.{printed-within}
+use Rattle.text.proofs.Writing.{written-within}
 use borrow.Author.Needs.{needs}
 use Rattle.boards.proofs.next_board.Statement.{statement}
 use Rattle.boards.proofs.next_board.Tie as tie
@@ -23,7 +23,7 @@ print-route-requires : tie.Need-print-route-requires
 print-route-requires c κs = search needs
 
 fits : (c : tie.After-print-route) → c .print-route .result .used ≤ length (c .print-route .result .bytes)
-fits c = printed-within _ (c .print-route .ensures)
+fits c = written-within (c .print-route .ensures .0)
 
 array-share-prefix-bytes : tie.Need-array-share-prefix-bytes
 array-share-prefix-bytes c = fits (c .before)

@@ -4,7 +4,7 @@ use mathlib.Core.Path.{_≡_}
 use native.Mathlib.Omega.{arith}
 use lib.ListN.{length, replicate, length-replicate}
 use borrow.Author.Needs.{needs}
-use Rattle.printing.proofs.Printing.{layout-printed, refusal-room, refusal-printed}
+use Rattle.printing.proofs.Printing.{layout-printed, refusal-room, refusal-printed, promised}
 use Rattle.printing.proofs.print_route.Statement.{statement}
 use Rattle.printing.proofs.print_route.Tie as tie
 
@@ -28,7 +28,8 @@ returns : tie.Need-returns
 returns c =
     let n = c .before .before in
     let r = n .before .before in
-    layout-printed _ (length-is r) _ _ _ _ (r .route .ensures .0) (r .route .ensures .1 .1 .1 .0) (n .answer-number .ensures) (c .before .if1 .taken) _ (c .answer-bytes .ensures)
+    promised _
+    (layout-printed _ (length-is r) _ _ _ _ (r .route .ensures .0) (r .route .ensures .1 .1 .1 .0) (n .answer-number .ensures) (c .before .if1 .taken) _ (c .answer-bytes .ensures))
 
 answer-line-requires : tie.Need-answer-line-requires
 answer-line-requires c κs = search needs
@@ -49,7 +50,8 @@ returns-2 c =
     let l = w .before .before in
     let n = l .before .before in
     let r = n .before .before in
-    refusal-printed _ (length-is r) _ _ _ _ (r .route .ensures .0) (r .route .ensures .1 .1 .1 .0) (n .answer-number .ensures) (l .before .if1 .left) _ (l .answer-line .ensures) (w .put-refusal .ensures)
+    promised _
+    (refusal-printed _ (length-is r) _ _ _ _ (r .route .ensures .0) (r .route .ensures .1 .1 .1 .0) (n .answer-number .ensures) (l .before .if1 .left) _ (l .answer-line .ensures) (w .put-refusal .ensures))
 
 pub print-route-spec : {M : Type 1} → statement M
 print-route-spec =

@@ -2,7 +2,7 @@
 use Prim.Native.Nat.{_≤_}
 use native.Mathlib.Omega.{arith}
 use lib.ListN.{length, length-take}
-use Rattle.reader.proofs.Reports.{report-within}
+use Rattle.text.proofs.Writing.{written-within}
 use borrow.Author.Needs.{needs}
 use Rattle.readings.proofs.next_reading.Statement.{statement}
 use Rattle.readings.proofs.next_reading.Tie as tie
@@ -26,7 +26,7 @@ report-requires : tie.Need-report-requires
 report-requires c κs = search needs
 
 fits : (c : tie.After-report) → c .report .result ≤ length (c .report .last .1 .0)
-fits c = report-within _ (c .report .ensures) (omega arith)
+fits c = written-within (c .report .ensures)
 
 array-share-prefix-line : tie.Need-array-share-prefix-line
 array-share-prefix-line c = fits (c .before)

@@ -2,7 +2,7 @@
 use mathlib.Core.Path.{sym}
 use lib.Seq.{length-take-le}
 use Rattle.files.specs.FileTexts.{textOf}
-use Rattle.printing.proofs.Printing.{printed-within}
+use Rattle.text.proofs.Writing.{written-within}
 use borrow.Author.Needs.{needs}
 use Rattle.routeinput.proofs.routed_input.Statement.{statement}
 use Rattle.routeinput.proofs.routed_input.Tie as tie
@@ -23,8 +23,8 @@ returns : tie.Need-returns
 unfolding textOf
 returns c =
     let p = c .print-route .ensures in
-    let fits = printed-within _ p in
-    (c .before .before .before .text-from .ensures .0, (p, (fits, sym (length-take-le _ _ fits))))
+    let fits = written-within (p .0) in
+    (c .before .before .before .text-from .ensures .0, (p .0, (p .1 .0, (p .1 .1 .0, (p .1 .1 .1, (fits, sym (length-take-le _ _ fits)))))))
 
 pub routed-input-spec : {M : Type 1} → statement M
 routed-input-spec = tie.close (tie.spec text-from-requires array-share-prefix-job-bytes slice-aggregate-print-route print-route-requires returns)

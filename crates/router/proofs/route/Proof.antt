@@ -1,12 +1,15 @@
 -- `router::route` meets its contract. Assumes nothing.
-use mathlib.Core.Path.{_≡_}
+use mathlib.Core.Path.{_≡_, sym}
 use native.Mathlib.Omega.{arith}
+use lib.ListN.{length, take}
+use lib.Seq.{length-take-le}
 use borrow.Author.Needs.{needs}
 use denote.Ref.{now}
 use Rattle.board.specs.Stored.{jobOf, AcceptedStored}
 use Rattle.jobfile.specs.Read.{accepted, readJob}
 use Rattle.jobfile.proofs.Returned.{given-stored, given-read, given-refused}
-use Rattle.router.proofs.Answering.{refused-promised, small-promised, routed-promised, plan-can, plan-short, plan-written}
+use Rattle.text.proofs.Writing.{written-within}
+use Rattle.router.proofs.Answering.{refused-promised, small-promised, routed-promised, plan-can, plan-short, drawn-length, copied}
 use Rattle.router.proofs.route.Statement.{statement}
 use Rattle.router.proofs.route.Tie as tie
 
@@ -47,15 +50,21 @@ returns-2 c =
     let p = d .before .before in
     let a = stored-at (p .before) in
     small-promised _ _ (read-at (p .before)) (a .accepted) (now (p .before .before .before .before .before .before .before .args .out)) _
-    (plan-written _ a _ (p .plan-job .ensures .0) (d .draw .ensures) .used) (c .if2 .taken)
+    (drawn-length _ a _ (p .plan-job .ensures .0) (d .draw .ensures)) (c .if2 .taken)
 
-draw-requires-2 : tie.Need-draw-requires-2
-draw-requires-2 c κs =
-    let i = c .before in
-    let d = i .before .before in
-    let p = d .before .before in
-    let a = stored-at (p .before) in
-    (a, (plan-can _ a _ (p .plan-job .ensures .0), omega (arith, i .if2 .left, d .draw .ensures .used)))
+array-share-prefix-drawn : tie.Need-array-share-prefix-drawn
+array-share-prefix-drawn c = written-within (c .before .before .before .draw .ensures)
+
+-- as many bytes are copied as were drawn
+copied-bytes : (c : tie.After-drawn3) →
+    length (take (c .before .before .before .before .draw .result) (c .before .before .before .before .draw .last .1 .1 .0)) ≡ c .before .before .before .before .draw .result
+copied-bytes c = length-take-le _ _ (written-within (c .before .before .before .before .draw .ensures))
+
+slice-aggregate-put-bytes : tie.Need-slice-aggregate-put-bytes
+slice-aggregate-put-bytes c = sym (copied-bytes c)
+
+put-bytes-requires : tie.Need-put-bytes-requires
+put-bytes-requires c κs = omega (arith, copied-bytes c, c .before .before .if2 .left)
 
 same-length : tie.Need-same-length
 same-length c = search needs
@@ -63,13 +72,14 @@ same-length c = search needs
 returns-3 : tie.Need-returns-3
 returns-3 c =
     let w = c .before .before in
-    let i = w .before .before in
+    let i = w .before .before .before in
     let d = i .before .before in
     let p = d .before .before in
     let a = stored-at (p .before) in
     routed-promised _ _ (read-at (p .before)) (a .accepted) (now (p .before .before .before .before .before .before .before .args .out)) _ _
-    (plan-written _ a _ (p .plan-job .ensures .0) (w .draw2 .ensures))
-    (omega (arith, i .if2 .left, plan-written _ a _ (p .plan-job .ensures .0) (d .draw .ensures) .used))
+    (drawn-length _ a _ (p .plan-job .ensures .0) (d .draw .ensures))
+    (copied _ a _ (p .plan-job .ensures .0) (d .draw .ensures) (w .put-bytes .ensures))
+    (omega (arith, i .if2 .left))
 
 pub route-spec : {M : Type 1} → statement M
 route-spec =
@@ -82,6 +92,8 @@ route-spec =
     slice-aggregate-draw
     draw-requires
     returns-2
-    draw-requires-2
+    array-share-prefix-drawn
+    slice-aggregate-put-bytes
+    put-bytes-requires
     same-length
     returns-3)

@@ -1,9 +1,11 @@
--- `RightAnswer` leaves one answer: its outcome and its job are those that read returns. So no clause of it, of `FirstFault` or of `Fault` can
--- be left out or weakened: another answer would be right too. Assumes nothing.
+-- `RightAnswer` leaves one answer: its outcome and its job are those that read returns. So no clause of it but `job-accepted`, of `FirstFault`
+-- or of `Fault` can be left out or weakened: another answer would be right too. `job-accepted` follows from the clauses above it, and is said
+-- for those who use the job. Assumes nothing.
 use Prim.Native.Nat.{ℕ, zero, suc}
 use mathlib.Core.Path.{_≡_, refl, sym, ap, _∙_}
 use mathlib.Core.List.{List}
 use native.Mathlib.Omega.{arith}
+use Rattle.board.specs.Accepted.{AcceptedJob}
 use Rattle.board.specs.Stored.{jobOf}
 use Rattle.board.proofs.StoredJobs.{job-back}
 use Rattle.jobfile.specs.declared.Answer.{Answer}
@@ -59,3 +61,7 @@ module _ (text : List ℕ) (a : Answer) (r : RightAnswer text a) where
 
   pub right-only : SameAnswer a (answer text)
   right-only = by-number (numberOf (a .outcome)) right-accepted right-refused
+
+  -- the job of an accepted text keeps every bound
+  pub right-bounds : numberOf (a .outcome) ≡ 0 → AcceptedJob (jobOf (a .job))
+  right-bounds z = r .job-accepted z

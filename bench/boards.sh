@@ -3,13 +3,13 @@
 #
 #     bench/boards.sh SECOND_ROUTER STDIN STDOUT
 #
-# SECOND_ROUTER is the folder of the second router, which others wrote from document 01 (its sources stand in src/, its jobs in
-# vectors/). STDIN is the file of job texts to be made, each text ended by byte 255, which stands in no text; STDOUT the file of what the
-# second router prints for them, one answer behind the other: a layout, or a line `(refused number line)`. Nothing of STDOUT comes from
-# the code in this repository.
+# SECOND_ROUTER is the folder of the second router (its sources stand in src/, its jobs in vectors/). It was written apart from this code,
+# from the documents and the readings in docs/DECISIONS.md. STDIN is the file of job texts to be made, each text ended by byte 255, which
+# stands in no text; STDOUT the file of what the second router prints for them, one answer behind the other: a layout, or a line
+# `(refused number line)`. Nothing of STDOUT comes from the code in this repository.
 #
 # The texts, in this order: document 01's boards to try, starred or not, and the other vectors of every family, the `max` family three
-# times; then generated jobs of every other family, from seeds that the vectors do not have, none above 2,000 bytes.
+# times; then generated jobs of the other families of document 01, from seeds that the vectors do not have, none above 2,000 bytes.
 # Beside STDIN and STDOUT it writes below target/bench/ only.
 . "$(dirname "$0")/cases.sh"
 jobs=0
@@ -41,7 +41,7 @@ for job in "$second"/vectors/*-*.job; do
     fi
 done
 
-# nine generated jobs of every family but `max`
+# nine generated jobs of each family of document 01 but `max`
 for family in tiny small dense blocky precedence stretch edge spacing damaged ties words; do
     seed=20001
     made=0

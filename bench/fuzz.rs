@@ -9,7 +9,7 @@ mod hostile;
 
 use hankuribo::Refusal;
 use second_router::prng::Prng;
-use second_router::{check, gen, job, mutate, route};
+use second_router::{check, gen, job, level, mutate, route};
 use std::collections::BTreeMap;
 use std::fmt::Debug;
 use std::time::Instant;
@@ -155,11 +155,12 @@ fn try_seed(seed: u64, tally: &mut Tally) {
     let mut case = Case { seed, tally, job: text };
     match job::read(&case.job) {
         Err(refused) => refused_job(&mut case, &mut p, refused),
-        Ok(accepted) => accepted_job(&mut case, &mut p, &accepted, if accepted.rows < 300 { 4 } else { 1 }),
+        Ok(accepted) => accepted_job(&mut case, &mut p, &accepted, if accepted.board.rows < 300 { 4 } else { 1 }),
     }
 }
 
 fn main() {
+    level::set(second_router::LEVEL);
     let told: Vec<u64> = std::env::args().skip(1).map(|word| word.parse().expect("a number")).collect();
     let first = told.first().copied().unwrap_or(1);
     let count = told.get(1).copied().unwrap_or(100_000);

@@ -4,13 +4,20 @@
 use second_router::gen;
 use second_router::prng::Prng;
 
-/// A job text, and the name of its kind: of its family, where it is made by the second router's generator.
+/// The families of the largest jobs, which take the most time.
+const LARGEST: [&str; 3] = ["max", "mixedmax", "speed"];
+
+/// A job text, and the name of its kind: of its family, where it is made by the second router's generator. Families of orders that are
+/// still to come are among them: their jobs must be refused as before those orders.
 pub fn job_text(p: &mut Prng) -> (&'static str, Vec<u8>) {
     match p.pick(1, 1000) {
-        1 => ("max", family(p, "max")),
+        1 => {
+            let name = LARGEST[p.pick(0, 2)];
+            (name, family(p, name))
+        }
         2..=330 => {
             let name = gen::FAMILIES[p.pick(0, gen::FAMILIES.len() - 1)];
-            let name = if name == "max" { "small" } else { name };
+            let name = if LARGEST.contains(&name) { "small" } else { name };
             (name, family(p, name))
         }
         331..=500 => ("job of random numbers", random_job(p)),

@@ -3,12 +3,13 @@
 #
 #     bench/layouts.sh SECOND_ROUTER STDIN STDOUT
 #
-# SECOND_ROUTER is the folder of the second router (its sources stand in src/, its check cases in vectors/). STDIN is the file to be made:
-# for each case the job's text and the layout's, each ended by byte 255, which stands in no text; STDOUT the file of what the second
-# router's check prints for them, a line each. Nothing of STDOUT comes from the code in this repository.
+# SECOND_ROUTER is the folder of the second router (its sources stand in src/, its check cases in vectors/). It was written apart from this
+# code, from the documents and the readings in docs/DECISIONS.md. STDIN is the file to be made: for each case the job's text and the
+# layout's, each ended by byte 255, which stands in no text; STDOUT the file of what the second router's check prints for them, a line
+# each. Nothing of STDOUT comes from the code in this repository.
 #
-# The cases, in this order: all check cases of the vectors; then, for generated jobs of every family but `max`, the second router's layout
-# and three mutants of it, where the job is accepted and neither text is above 2,000 bytes.
+# The cases, in this order: all check cases of the vectors; then, for generated jobs of the families of document 01 but `max` and `damaged`,
+# the second router's layout and three mutants of it, where the job is accepted and the two texts have at most 2,000 bytes.
 # Beside STDIN and STDOUT it writes below target/bench/ only.
 . "$(dirname "$0")/cases.sh"
 cases=0

@@ -10,7 +10,7 @@
 
 mod growing;
 
-use second_router::{check, gen, job, route};
+use second_router::{check, gen, job, level, route};
 use std::cell::RefCell;
 use std::hint::black_box;
 
@@ -120,7 +120,7 @@ fn same_answers(text: &[u8]) -> bool {
 
 /// Rows, nets and tracks of a job.
 fn size(text: &[u8]) -> [usize; 3] {
-    job::read(text).map_or([0; 3], |job| [job.rows, job.nets.len(), job.tracks])
+    job::read(text).map_or([0; 3], |job| [job.board.rows, job.nets.len(), job.board.tracks])
 }
 
 /// Says how the ratios of the family `max` stand to the aim.
@@ -195,6 +195,7 @@ fn long_texts() -> [(&'static str, Vec<u8>); 2] {
 }
 
 fn main() {
+    level::set(second_router::LEVEL);
     let mut jobs = Vec::new();
     for (family, seeds) in FAMILIES {
         for seed in 1..=seeds {

@@ -52,7 +52,8 @@ pub enum Refusal {
 #[derive(Clone, Copy, Debug, PartialEq, Eq)]
 pub enum Verdict {
     Sound,
-    /// broken, and this is the first broken line
+    /// broken, and this is the first broken line as order 3 judges: nothing is judged below a line that is not of the form or cannot stand
+    /// where it does
     Broken(usize),
     Refused(Refusal),
 }

@@ -1,6 +1,7 @@
 #!/usr/bin/env python3
 # Makes stdin and stdout of this program:  make-stdin.py ROUTER VECTORS
-# ROUTER is the program of the second router, which others wrote from document 01; VECTORS is its folder of jobs.
+# ROUTER is the program of the second router; VECTORS is its folder of jobs. It was written apart from this code, from the documents and the
+# readings in docs/DECISIONS.md, and runs at the level of bench/level (bench/cases.sh says what that is).
 # stdin has those jobs, jobs that ROUTER generates, and the texts below, each ended by byte 255. stdout has what ROUTER says of each:
 # its refusal, or (accepted) where it prints a layout. Nothing of stdout comes from the code in this repository.
 import glob, os, subprocess, sys
@@ -93,13 +94,15 @@ def texts():
     yield '\n' * 64000
 
 def main(router, vectors):
+    folder = os.path.dirname(os.path.abspath(__file__))
+    with open(os.path.join(folder, '../../bench/level')) as level:
+        os.environ['LEVEL'] = level.read().strip()
     made = [t.encode() for t in texts()]
     kept = [open(f, 'rb').read() for f in sorted(glob.glob(os.path.join(vectors, '*-*.job')))]
     for family, seeds in [('damaged', range(1000, 1080)), ('spacing', range(1000, 1040)), ('edge', range(1000, 1040)), ('words', range(1000, 1010))]:
         for seed in seeds:
             t = subprocess.run([router, 'gen', str(seed), family], stdout=subprocess.PIPE, check=True).stdout
             if len(t) < 20000: kept.append(t)
-    folder = os.path.dirname(os.path.abspath(__file__))
     seen = set()
     with open(os.path.join(folder, 'stdin'), 'wb') as given, open(os.path.join(folder, 'stdout'), 'wb') as answers:
         for t in kept + made:

@@ -1,5 +1,5 @@
 -- Verdicts computed: document 01's worked layout, and layouts that break one rule or two. The expected verdicts are those of the second
--- router, a program written from document 01 and order 3 by others. Assumes nothing.
+-- router, which was written apart from this code, from the documents and the readings in docs/DECISIONS.md. Assumes nothing.
 use Prim.Native.Nat.{ℕ}
 use mathlib.Core.Path.{_≡_, refl}
 use mathlib.Core.List.{List}

@@ -22,9 +22,9 @@ module _ (text : List ℕ) (job : Job) (e : readJob text ≡ accepted job) where
       ap routeText (sym i) ∙ l .written-is
 
   -- every net of the job that is read is as stated
-  pub each-net : (length stretch needed tops first last : ℕ) → OneNet text length stretch needed tops first last →
-      (n : Net) → List·Memᴰ n (job .nets) → Tried (job .board) n length stretch needed first last
-  each-net length stretch needed tops first last o n h =
+  pub each-net : (shortestLength stretch needed tops first last : ℕ) → OneNet text shortestLength stretch needed tops first last →
+      (n : Net) → List·Memᴰ n (job .nets) → Tried (job .board) n shortestLength stretch needed first last
+  each-net shortestLength stretch needed tops first last o n h =
       let q : accepted (o .job) ≡ accepted job = sym (o .read) ∙ e in
       let i : o .job ≡ job = cc in
       let k : List·Memᴰ n (o .net ∷ []) = subst (λ (ns : List Net). List·Memᴰ n ns) (ap (λ (j : Job). j .nets) (sym i) ∙ o .only) h in
@@ -49,6 +49,7 @@ refused-as text o e number line r =
     (ap numberOf (sym i) ∙ r .number-is, ap lineOf (sym i) ∙ r .line-is)
 
 -- the stated tops, from the first to the last, are as many as stated
-pub tops-counted : (text : List ℕ) (length stretch needed tops first last : ℕ) → OneNet text length stretch needed tops first last →
+pub tops-counted : (text : List ℕ) (shortestLength stretch needed tops first last : ℕ) →
+    OneNet text shortestLength stretch needed tops first last →
     first + tops ≡ last + 1
-tops-counted text length stretch needed tops first last o = o .so-many
+tops-counted text shortestLength stretch needed tops first last o = o .so-many

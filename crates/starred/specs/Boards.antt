@@ -17,7 +17,7 @@ use Rattle.routing.specs.Route.{routeText}
 -- the number of tops, the first of them and the last; or the number and the line of its refusal
 pub data Expected : Type 0 where
   gives-layout : (text : List ℕ) → Expected
-  gives-net : (length stretch needed tops first last : ℕ) → Expected
+  gives-net : (shortestLength stretch needed tops first last : ℕ) → Expected
   gives-refusal : (number line : ℕ) → Expected
 
 -- a starred board: the bytes of its job file, and what the document says of it
@@ -33,12 +33,12 @@ pub record LaidOut (text written : List ℕ) : Type 0 where
 
 -- the text is accepted, its job has exactly one net, and the net's shortest allowed length, stretch and needed rows are these, its tops
 -- there, so many, the rows `first` to `last`
-pub record OneNet (text : List ℕ) (length stretch needed tops first last : ℕ) : Type 0 where
+pub record OneNet (text : List ℕ) (shortestLength stretch needed tops first last : ℕ) : Type 0 where
   pub job : Job
   pub net : Net
   pub read : readJob text ≡ accepted job
   pub only : job .nets ≡ net ∷ []
-  pub tried : Tried (job .board) net length stretch needed first last
+  pub tried : Tried (job .board) net shortestLength stretch needed first last
   pub so-many : first + tops ≡ last + 1
 
 -- the text is refused with this number and this line
@@ -51,7 +51,7 @@ pub record RefusedWith (text : List ℕ) (number line : ℕ) : Type 0 where
 -- the job file meets what is expected of it
 abbrev pub Meets : List ℕ → Expected → Type 0
 Meets text (gives-layout written) = LaidOut text written
-Meets text (gives-net length stretch needed tops first last) = OneNet text length stretch needed tops first last
+Meets text (gives-net shortestLength stretch needed tops first last) = OneNet text shortestLength stretch needed tops first last
 Meets text (gives-refusal number line) = RefusedWith text number line
 
 -- what the document says of a starred board holds

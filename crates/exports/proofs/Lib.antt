@@ -3,3 +3,4 @@ pub mod Sums
 pub mod Answered
 pub mod Replies
 pub mod Verdicts
+pub mod TakenOut

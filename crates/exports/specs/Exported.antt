@@ -3,14 +3,17 @@ use Prim.Native.Nat.{ℕ, _+_}
 use mathlib.Core.Path.{_≡_}
 use mathlib.Core.Bool.{Bool, true, false}
 use mathlib.Core.List.{List, [], _∷_}
+use lib.ListN.{take}
+use Rattle.board.specs.Job.{Job}
 use Rattle.jobfile.specs.Read.{Read, accepted, refused}
 use Rattle.jobfile.specs.Answers.{numberOf}
 use Rattle.planning.specs.Plan.{planOf}
 use Rattle.planning.specs.Loose.{sumOfTracks}
 use Rattle.router.specs.declared.RouteAnswer.{RouteAnswer}
-use Rattle.router.specs.Answers.{routeValues}
+use Rattle.router.specs.Answers.{routeValues, RightFor}
 use Rattle.checker.specs.declared.CheckAnswer.{CheckAnswer}
 use Rattle.checker.specs.Answers.{checkValues}
+use Rattle.checker.specs.RightVerdict.{RightVerdict}
 
 -- numbers added up
 unfoldable pub addedUp : List ℕ → ℕ
@@ -33,6 +36,18 @@ pub record RepliesWith (a : RouteAnswer) (number line bytes : ℕ) : Type 0 wher
   pub line-is : line ≡ routeValues a .line
   pub bytes-is : bytes ≡ routeValues a .bytes
 
+-- the number, line and length are those of an answer that is right for the job file
+pub record RightReply (job : List ℕ) (number line bytes : ℕ) : Type 0 where
+  pub given : RouteAnswer
+  pub replies : RepliesWith given number line bytes
+  pub right : RightFor job given
+
+-- P holds of the job and of the layout handed out: where the job file is accepted and the number is 0, the first bytes of the buffer, as many
+-- as the length says; elsewhere no layout is handed out, and nothing is asked
+abbrev pub OfReply : (Job → List ℕ → Type 0) → Read → (number bytes : ℕ) → List ℕ → Type 0
+OfReply P (accepted job) number bytes out = number ≡ 0 → P job (take bytes out)
+OfReply P (refused o) number bytes out = Unit {0}
+
 -- a yes or no as a number
 unfoldable pub oneIf : Bool → ℕ
 oneIf true = 1
@@ -43,3 +58,9 @@ pub record CheckRepliesWith (a : CheckAnswer) (number line broken : ℕ) : Type 
   pub number-is : number ≡ checkValues a .number
   pub line-is : line ≡ checkValues a .line
   pub broken-is : broken ≡ oneIf (checkValues a .broken)
+
+-- the number, line and word are those of an answer that is right for the job file and the layout
+pub record RightCheckReply (job layout : List ℕ) (number line broken : ℕ) : Type 0 where
+  pub given : CheckAnswer
+  pub replies : CheckRepliesWith given number line broken
+  pub right : RightVerdict job layout given

@@ -7,10 +7,9 @@ ghost use lib.ListN.{length};
 ghost use Rattle.planning.specs.Plan.{planOf};
 ghost use Rattle.sound.specs.Sound.{Sound};
 ghost use Rattle.routing.specs.Promises.{ShortestText, UnbeatenText};
-ghost use Rattle.router.specs.Answers.{routeAnswer, RightFor, bufferAfter, OfWritten};
+ghost use Rattle.router.specs.Answers.{routeAnswer, bufferAfter};
 ghost use Rattle.checker.specs.Answers.{checkAnswer};
-ghost use Rattle.checker.specs.RightVerdict.{RightVerdict};
-ghost use Rattle.exports.specs.Exported.{addedUp, refusalOf, planSum, oneIf, RepliesWith, CheckRepliesWith};
+ghost use Rattle.exports.specs.Exported.{addedUp, refusalOf, planSum, oneIf, RepliesWith, RightReply, OfReply, CheckRepliesWith, RightCheckReply};
 
 // Routes a job into a buffer, and answers in document 01's numbers: the number of the refusal, 0 where the layout is written; through
 // `line` the line that it names, 0 where it names none; through `bytes` the length of the layout, written or needed.
@@ -22,11 +21,11 @@ pub extern "C" fn hankuribo_route(
     bytes: &mut usize,
 ) -> usize
     ensures answer { λ r. ⌜ RepliesWith (routeAnswer (readJob (now (job .entry))) (length (now (out .entry)))) r (now (line .exit)) (now (bytes .exit)) ⌝ }
-    ensures right { λ _. ⌜ RightFor (now (job .entry)) (routeAnswer (readJob (now (job .entry))) (length (now (out .entry)))) ⌝ }
+    ensures right { λ r. ⌜ RightReply (now (job .entry)) r (now (line .exit)) (now (bytes .exit)) ⌝ }
     ensures buffer { λ _. ⌜ now (out .exit) ≡ bufferAfter (readJob (now (job .entry))) (now (out .entry)) ⌝ }
-    ensures shortest { λ _. ⌜ OfWritten (λ j text. ShortestText j (planOf j) text) (readJob (now (job .entry))) (routeAnswer (readJob (now (job .entry))) (length (now (out .entry)))) (now (out .exit)) ⌝ }
-    ensures sound { λ _. ⌜ OfWritten (λ j text. Sound j text) (readJob (now (job .entry))) (routeAnswer (readJob (now (job .entry))) (length (now (out .entry)))) (now (out .exit)) ⌝ }
-    ensures unbeaten { λ _. ⌜ OfWritten (λ j text. UnbeatenText j text) (readJob (now (job .entry))) (routeAnswer (readJob (now (job .entry))) (length (now (out .entry)))) (now (out .exit)) ⌝ }
+    ensures shortest { λ r. ⌜ OfReply (λ j text. ShortestText j (planOf j) text) (readJob (now (job .entry))) r (now (bytes .exit)) (now (out .exit)) ⌝ }
+    ensures sound { λ r. ⌜ OfReply (λ j text. Sound j text) (readJob (now (job .entry))) r (now (bytes .exit)) (now (out .exit)) ⌝ }
+    ensures unbeaten { λ r. ⌜ OfReply (λ j text. UnbeatenText j text) (readJob (now (job .entry))) r (now (bytes .exit)) (now (out .exit)) ⌝ }
 {
     let answer = router::route(job, out);
     *line = router::answer_line(answer);
@@ -55,7 +54,7 @@ pub extern "C" fn hankuribo_check(
     broken: &mut usize,
 ) -> usize
     ensures answer { λ r. ⌜ CheckRepliesWith (checkAnswer (readJob (now (job .entry))) (now (layout .entry))) r (now (line .exit)) (now (broken .exit)) ⌝ }
-    ensures right { λ _. ⌜ RightVerdict (now (job .entry)) (now (layout .entry)) (checkAnswer (readJob (now (job .entry))) (now (layout .entry))) ⌝ }
+    ensures right { λ r. ⌜ RightCheckReply (now (job .entry)) (now (layout .entry)) r (now (line .exit)) (now (broken .exit)) ⌝ }
 {
     let answer = checker::check(job, layout);
     *line = checker::check_line(answer);

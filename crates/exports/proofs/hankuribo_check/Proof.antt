@@ -1,6 +1,4 @@
 -- `exports::hankuribo_check` meets its contract. Assumes nothing.
-use mathlib.Core.Path.{subst}
-use Rattle.checker.specs.RightVerdict.{RightVerdict}
 use borrow.Author.Needs.{needs}
 use Rattle.exports.proofs.Verdicts.{check-reply-given}
 use Rattle.exports.proofs.hankuribo_check.Statement.{statement}
@@ -26,10 +24,8 @@ returns c =
     let o = c .before in
     let b = o .before in
     let l = b .before in
-    let a = l .before .check .ensures in (
-      check-reply-given _ _ _ (a .0) _ _ _ _ (c .check-number .ensures) (l .check-line .ensures) (b .is-broken .ensures) (o .one-if .ensures),
-      subst (RightVerdict _ _) (a .0) (a .1 .1),
-    )
+    let a = l .before .check .ensures in
+    check-reply-given _ _ _ (a .0) (a .1 .1) _ _ _ _ (c .check-number .ensures) (l .check-line .ensures) (b .is-broken .ensures) (o .one-if .ensures)
 
 pub hankuribo-check-spec : {M : Type 1} → statement M
 hankuribo-check-spec =

@@ -84,9 +84,10 @@ def refused_in(edit, other, folder):
     said = subprocess.run(['rt', 'check', other], cwd=folder, stdout=subprocess.PIPE, stderr=subprocess.STDOUT, text=True, env={**os.environ, 'RT_JOBS': '1'})
     if said.returncode == 0:
         return None
-    for crate in re.findall(r'^rt: (\w+) NOT PROVED \(exit 1', said.stdout, re.M):
-        return first_error(folder / 'target/log' / (crate + '.say'), folder)
-    raise BadEdit(f'{other} was not reached: ' + said.stdout.strip().split('\n')[-1])
+    crate = re.search(r'^rt: (\w+) NOT PROVED \(exit 1', said.stdout, re.M)
+    if not crate or crate[1] != other:
+        raise BadEdit(f'{other} was not reached: ' + (f'{crate[1]} refuses it' if crate else said.stdout.strip().split('\n')[-1]))
+    return first_error(folder / 'target/log' / (other + '.say'), folder)
 
 
 def tried_above(edit):

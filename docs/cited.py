@@ -13,7 +13,7 @@ It looks at the text in back quotes in README.md, docs/*.md and docs/orders/*.md
     .d  ::f                                  goes on from the citation before: another name of its file or item, another item of its module
     X/must-fail/e  X/weaker/e                a wrong version; another name with a `_` behind it is of the same folder
     README.md  bench/..  crates/..  docs/..  a path, where * stands for any name; words behind it are passed over
-    Name  a-name  F.d                        any other name: a word of a source or a script, or the name of a file
+    Name  a-name  F.d                        any other name: a word of some source or script, or the name of a file
 
 A citation goes on within its paragraph, list item or table row only. Other text in back quotes is passed over.
 """
@@ -111,7 +111,7 @@ def edit(cited, last):
     if found:
         last['folder'] = found[1]
         return '' if (crates / found[1]).is_dir() and (not found[2] or found[1] + found[2] in edits) else 'no such edit'
-    if 'folder' in last and cited not in words and re.fullmatch(r'[a-z]+_\w+', cited):
+    if 'folder' in last and re.fullmatch(r'[a-z]+_\w+', cited):
         return '' if last['folder'] + cited in edits else f'no such edit in {last["folder"]}'
     return None
 

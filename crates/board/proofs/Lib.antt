@@ -9,3 +9,4 @@ pub mod ExactTests
 pub mod RivalTests
 pub mod RivalFacts
 pub mod AcceptedFacts
+pub mod TakenOut

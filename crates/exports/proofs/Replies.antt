@@ -43,9 +43,17 @@ reply-given job before a after p n l b e f g =
         line-is = f ∙ ap (λ (y : RouteAnswer). routeValues y .line) q;
         bytes-is = g ∙ ap (λ (y : RouteAnswer). routeValues y .bytes) q;
       },
-      (record { given = a; replies = record { number-is = e; line-is = f; bytes-is = g }; right = r },
-      (w .0,
-      (handed-out job (λ j text. ShortestText j (planOf j) text) after n b (readJob job) refl a r (w .1 .0) e g,
-      (handed-out job (λ j text. Sound j text) after n b (readJob job) refl a r (w .1 .1 .0) e g,
-      handed-out job (λ j text. UnbeatenText j text) after n b (readJob job) refl a r (w .1 .1 .1) e g))))
+      (
+        record { given = a; replies = record { number-is = e; line-is = f; bytes-is = g }; right = r },
+        (
+          w .0,
+          (
+            handed-out job (λ j text. ShortestText j (planOf j) text) after n b (readJob job) refl a r (w .1 .0) e g,
+            (
+              handed-out job (λ j text. Sound j text) after n b (readJob job) refl a r (w .1 .1 .0) e g,
+              handed-out job (λ j text. UnbeatenText j text) after n b (readJob job) refl a r (w .1 .1 .1) e g,
+            ),
+          ),
+        ),
+      ),
     )

@@ -4,3 +4,4 @@ pub mod Nets
 pub mod Balance
 pub mod Bounds
 pub mod LooseRuns
+pub mod TakenOut

@@ -11,7 +11,7 @@ use lib.Dec.{eqb}
 use borrow.Author.Tests.{not-true, eq-eqb, ne-eqb, eqb-true}
 use Rattle.lists.specs.Lists.{allOf}
 use Rattle.lists.proofs.Cases.{by-test, and-split}
-use Rattle.text.specs.Bytes.{same, joined, pieces, nonEmpty}
+use Rattle.text.specs.Bytes.{same, joined, pieces, nonEmpty, lines}
 
 -- `same` tells whether two texts are equal
 
@@ -76,3 +76,13 @@ pub nonEmpty-some : (w : List ℕ) (ps : List (List ℕ)) → 1 ≤ length w →
 unfolding nonEmpty
 nonEmpty-some [] ps h = absurd (omega arith)
 nonEmpty-some (b ∷ w) ps h = refl
+
+-- an empty line is a line
+pub empty-line : lines (97 ∷ 10 ∷ 10 ∷ 98 ∷ []) ≡ (97 ∷ []) ∷ [] ∷ (98 ∷ []) ∷ []
+unfolding pieces joined
+empty-line = refl
+
+-- an empty last piece is none
+pub empty-last : lines (97 ∷ 10 ∷ []) ≡ (97 ∷ []) ∷ []
+unfolding pieces joined
+empty-last = refl

@@ -1,6 +1,5 @@
 -- What demand 3 says of a plan, taken out: the wires of a track have the most, and every track is asked. Assumes nothing.
 use Prim.Native.Nat.{ℕ, suc, _≤_, _<_}
-use mathlib.Core.Path.{_≡_}
 use mathlib.Core.List.{List}
 use native.Mathlib.Omega.{arith}
 use lib.ListN.{length, take, getD}

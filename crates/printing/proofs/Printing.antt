@@ -19,8 +19,7 @@ use Rattle.reader.specs.Reports.{refusedText}
 use Rattle.reader.proofs.Reports.{refused-short}
 use Rattle.routing.specs.Route.{routeText}
 use Rattle.routing.specs.Promises.{ShortestText, UnbeatenText}
-use Rattle.routing.proofs.RouteSound.{route-sound}
-use Rattle.routing.proofs.RouteUnbeaten.{route-length, route-drawn, route-unbeaten}
+use Rattle.routing.proofs.RouteUnbeaten.{route-length, route-demanded}
 use Rattle.router.specs.declared.RouteAnswer.{RouteAnswer}
 use Rattle.router.specs.Answers.{RouteValues, routeValues, routeAnswer, bufferAfter}
 use Rattle.printing.specs.Printed.{printedText, OfLayout}
@@ -78,9 +77,7 @@ module _ (before : List ℕ) (room : length before ≡ 64000) where
 demanded : (text : List ℕ) (y : Read) → readJob text ≡ y → (bytes : List ℕ) → bytes ≡ printedText y →
     OfLayout (λ j l. ShortestText j (planOf j) l) y bytes × (OfLayout (λ j l. Sound j l) y bytes × OfLayout (λ j l. UnbeatenText j l) y bytes)
 unfolding printedText
-demanded text (accepted job) e bytes w =
-    let a = read-accepted text job e in
-    rw w (route-drawn job a, (route-sound job a, route-unbeaten job a))
+demanded text (accepted job) e bytes w = route-demanded job (read-accepted text job e) bytes w
 demanded text (refused o) e bytes w = (tt, (tt, tt))
 
 -- what is printed keeps all that is promised of it

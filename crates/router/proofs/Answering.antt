@@ -20,8 +20,7 @@ use Rattle.planning.specs.Plan.{planOf}
 use Rattle.sound.specs.Sound.{Sound}
 use Rattle.routing.specs.Promises.{ShortestText, UnbeatenText}
 use Rattle.routing.specs.Route.{routeText}
-use Rattle.routing.proofs.RouteSound.{route-sound}
-use Rattle.routing.proofs.RouteUnbeaten.{route-drawn, route-unbeaten, route-length}
+use Rattle.routing.proofs.RouteUnbeaten.{route-length, route-demanded}
 use Rattle.planner.specs.declared.JobPlan.{JobPlan}
 use Rattle.planner.specs.JobPlans.{jobPlanOf}
 use Rattle.drawer.specs.PlanText.{planText, DrawablePlan}
@@ -55,15 +54,11 @@ module _ (text : List ℕ) (job : Job) (e : readJob text ≡ accepted job) (a : 
   small-promised n w l =
       rw (e, w, lt-leb (length (routeText job)) (length before) (omega arith)) (refl, (refl, (right, (refl, (tt, (tt, tt))))))
 
-  -- demands 2 and 3 on the bytes that are route's text
-  demanded : (bytes : List ℕ) → bytes ≡ routeText job → ShortestText job (planOf job) bytes × (Sound job bytes × UnbeatenText job bytes)
-  demanded bytes w = rw w (route-drawn job a, (route-sound job a, route-unbeaten job a))
-
   pub routed-promised : (n : ℕ) (after : List ℕ) → n ≡ length (routeText job) → after ≡ over (routeText job) before → n ≤ length before → Promised text before (Routed n) after
   unfolding routeAnswer documentValues bufferAfter
   routed-promised n after u w l =
       rw (e, u, w, le-leb (length (routeText job)) (length before) (omega arith))
-      (refl, (refl, (right, (refl, demanded _ (take-append-seam (routeText job) (drop (length (routeText job)) before))))))
+      (refl, (refl, (right, (refl, route-demanded job a _ (take-append-seam (routeText job) (drop (length (routeText job)) before))))))
 
 -- the plan of an accepted job can be drawn, its text is the one that route writes, and that is short
 module _ (stored : StoredJob) (a : AcceptedStored stored) (plan : JobPlan) (p : plan ≡ jobPlanOf (jobOf stored)) where

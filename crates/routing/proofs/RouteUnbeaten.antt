@@ -152,3 +152,7 @@ module _ (job : Job) (a : AcceptedJob job) where
         wires-shortest = route-shortest;
         bytes-most = route-length;
       }
+
+  -- demands 2 and 3 on bytes that are route's text
+  pub route-demanded : (bytes : List ℕ) → bytes ≡ routeText job → ShortestText job (planOf job) bytes × (Sound job bytes × UnbeatenText job bytes)
+  route-demanded bytes e = rw e (route-drawn, (route-sound job a, route-unbeaten))

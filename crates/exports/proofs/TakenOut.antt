@@ -1,7 +1,7 @@
 -- What is promised of the numbers handed out, taken out: what they say of the faults of the job file, of the layout written and of the
 -- layout checked. Assumes nothing.
 use Prim.Native.Nat.{ℕ, _≤_}
-use mathlib.Core.Path.{_≡_, refl}
+use mathlib.Core.Path.{_≡_, refl, sym, ap}
 use mathlib.Core.List.{List}
 use native.Mathlib.Omega.{arith}
 use lib.ListN.{take}
@@ -14,55 +14,62 @@ use Rattle.jobfile.specs.Faults.{Fault, FirstFault}
 use Rattle.jobfile.proofs.Refusals.{fault-from}
 use Rattle.router.specs.declared.RouteAnswer.{RouteAnswer}
 use Rattle.router.specs.declared.RouteAnswer.the-variants as Of
-use Rattle.router.specs.Answers.{RightFor}
+use Rattle.router.specs.Answers.{RouteValues, routeValues, RightFor}
 use Rattle.checker.specs.declared.CheckAnswer.{CheckAnswer}
 use Rattle.checker.specs.declared.CheckAnswer.the-variants as Is
 use Rattle.checker.specs.RightVerdict.{RightVerdict, FirstBreach, jobHeld}
-use Rattle.exports.specs.Exported.{oneIf, RepliesWith, RightReply, OfReply, CheckRepliesWith, RightCheckReply}
+use Rattle.exports.specs.Exported.{oneIf, RightReply, OfReply, CheckReply, checkReply}
 
-module _ (text : List ℕ) (n l b : ℕ) where
-  zero-by : (a : RouteAnswer) → RepliesWith a n l b → RightFor text a → n ≡ 0 → ((o : Outcome) → Fault text o → ⊥) × (b ≤ 64000)
-  zero-by (Of.Refused o) w r z = absurd (omega (arith, w .number-is, z, fault-from text o (r .fault)))
-  zero-by (Of.TooSmall m) w r z = absurd (omega (arith, w .number-is, z))
-  zero-by (Of.Routed m) w r z = (r .0, rw (w .bytes-is) (r .1))
+module _ (text : List ℕ) (room n l b : ℕ) where
+  zero-by : (a : RouteAnswer) → routeValues a ≡ record { number = n; line = l; bytes = b } → RightFor text room a → n ≡ 0 →
+      ((o : Outcome) → Fault text o → ⊥) × (b ≤ room) × (b ≤ 64000)
+  zero-by (Of.Refused o) s r z = absurd (omega (arith, ap (λ v. v .number) s, z, fault-from text o (r .fault)))
+  zero-by (Of.TooSmall m) s r z = absurd (omega (arith, ap (λ v. v .number) s, z))
+  zero-by (Of.Routed m) s r z = (r .0, rw (sym (ap (λ v. v .bytes) s)) (r .1), rw (sym (ap (λ v. v .bytes) s)) (r .2))
 
-  -- number 0 is for a text without a fault, and the length is at most 64,000
-  pub zero-faultless : RightReply text n l b → n ≡ 0 → ((o : Outcome) → Fault text o → ⊥) × (b ≤ 64000)
-  zero-faultless r = zero-by (r .given) (r .replies) (r .right)
+  -- number 0 is for a text without a fault, and the length is at most that of the buffer, and at most 64,000
+  pub zero-faultless : RightReply routeValues (RightFor text room) (record { number = n; line = l; bytes = b }) → n ≡ 0 →
+      ((o : Outcome) → Fault text o → ⊥) × (b ≤ room) × (b ≤ 64000)
+  zero-faultless r = zero-by (r .given) (r .stands) (r .right)
 
-  named-by : (a : RouteAnswer) → RepliesWith a n l b → RightFor text a → (o : Outcome) → Fault text o →
+  named-by : (a : RouteAnswer) → routeValues a ≡ record { number = n; line = l; bytes = b } → RightFor text room a → (o : Outcome) → Fault text o →
       (p : Outcome) × (FirstFault text p × ((n ≡ numberOf p) × (l ≡ lineOf p)))
-  named-by (Of.Refused p) w r o f = (p, (r, (w .number-is, w .line-is)))
-  named-by (Of.TooSmall m) w r o f = absurd (r .0 o f)
-  named-by (Of.Routed m) w r o f = absurd (r .0 o f)
+  named-by (Of.Refused p) s r o f = (p, (r, (sym (ap (λ v. v .number) s), sym (ap (λ v. v .line) s))))
+  named-by (Of.TooSmall m) s r o f = absurd (r .0 o f)
+  named-by (Of.Routed m) s r o f = absurd (r .0 o f)
 
   -- of a text with a fault the number and the line are those of the first one
-  pub fault-named : RightReply text n l b → (o : Outcome) → Fault text o → (p : Outcome) × (FirstFault text p × ((n ≡ numberOf p) × (l ≡ lineOf p)))
-  fault-named r = named-by (r .given) (r .replies) (r .right)
+  pub fault-named : RightReply routeValues (RightFor text room) (record { number = n; line = l; bytes = b }) → (o : Outcome) → Fault text o →
+      (p : Outcome) × (FirstFault text p × ((n ≡ numberOf p) × (l ≡ lineOf p)))
+  fault-named r = named-by (r .given) (r .stands) (r .right)
 
 -- the promise is about as many bytes of the buffer as are told, where the job is accepted and the number is 0
 pub handed-is : (P : Job → List ℕ → Type 0) (job : Job) (n b : ℕ) (out : List ℕ) → OfReply P (accepted job) n b out → n ≡ 0 → P job (take b out)
 handed-is P job n b out h = h
 
 module _ (job layout : List ℕ) (n l k : ℕ) where
-  passed-by : (a : CheckAnswer) → CheckRepliesWith a n l k → RightVerdict job layout a → n ≡ 0 → k ≡ 0 → Sound (jobHeld job) layout
+  passed-by : (a : CheckAnswer) → checkReply a ≡ record { number = n; line = l; broken = k } → RightVerdict job layout a → n ≡ 0 → k ≡ 0 →
+      Sound (jobHeld job) layout
   unfolding oneIf
-  passed-by (Is.Refused o) w r z y = absurd (omega (arith, w .number-is, z, fault-from job o (r .refused-for o .0 refl .fault)))
-  passed-by Is.LayoutTooLong w r z y = absurd (omega (arith, w .number-is, z))
-  passed-by Is.Passes w r z y = r .passes-for .0 refl .1
-  passed-by (Is.Broken m) w r z y = absurd (omega (arith, w .broken-is, y))
+  passed-by (Is.Refused o) s r z y = absurd (omega (arith, ap (λ v. v .number) s, z, fault-from job o (r .refused-for o .0 refl .fault)))
+  passed-by Is.LayoutTooLong s r z y = absurd (omega (arith, ap (λ v. v .number) s, z))
+  passed-by Is.Passes s r z y = r .passes-for .0 refl .1
+  passed-by (Is.Broken m) s r z y = absurd (omega (arith, ap (λ v. v .broken) s, y))
 
   -- where number and broken are 0 the layout is sound
-  pub passed-sound : RightCheckReply job layout n l k → n ≡ 0 → k ≡ 0 → Sound (jobHeld job) layout
-  passed-sound r = passed-by (r .given) (r .replies) (r .right)
+  pub passed-sound : RightReply checkReply (RightVerdict job layout) (record { number = n; line = l; broken = k }) → n ≡ 0 → k ≡ 0 →
+      Sound (jobHeld job) layout
+  passed-sound r = passed-by (r .given) (r .stands) (r .right)
 
-  first-by : (a : CheckAnswer) → CheckRepliesWith a n l k → RightVerdict job layout a → k ≡ 1 → FirstBreach (jobHeld job) layout l
+  first-by : (a : CheckAnswer) → checkReply a ≡ record { number = n; line = l; broken = k } → RightVerdict job layout a → k ≡ 1 →
+      FirstBreach (jobHeld job) layout l
   unfolding oneIf
-  first-by (Is.Refused o) w r y = absurd (omega (arith, w .broken-is, y))
-  first-by Is.LayoutTooLong w r y = absurd (omega (arith, w .broken-is, y))
-  first-by Is.Passes w r y = absurd (omega (arith, w .broken-is, y))
-  first-by (Is.Broken m) w r y = rw (w .line-is) (r .broken-for m .0 refl .2)
+  first-by (Is.Refused o) s r y = absurd (omega (arith, ap (λ v. v .broken) s, y))
+  first-by Is.LayoutTooLong s r y = absurd (omega (arith, ap (λ v. v .broken) s, y))
+  first-by Is.Passes s r y = absurd (omega (arith, ap (λ v. v .broken) s, y))
+  first-by (Is.Broken m) s r y = rw (sym (ap (λ v. v .line) s)) (r .broken-for m .0 refl .2)
 
   -- where broken is 1 the line is the first broken one
-  pub broken-first : RightCheckReply job layout n l k → k ≡ 1 → FirstBreach (jobHeld job) layout l
-  broken-first r = first-by (r .given) (r .replies) (r .right)
+  pub broken-first : RightReply checkReply (RightVerdict job layout) (record { number = n; line = l; broken = k }) → k ≡ 1 →
+      FirstBreach (jobHeld job) layout l
+  broken-first r = first-by (r .given) (r .stands) (r .right)

@@ -3,13 +3,15 @@
 ghost use mathlib.Core.Path.{_≡_};
 ghost use Prim.Native.Nat.{_≤_};
 ghost use Rattle.jobfile.specs.Read.{readJob};
+ghost use Rattle.jobfile.specs.Answers.{numberOf, answer};
 ghost use lib.ListN.{length};
 ghost use Rattle.planning.specs.Plan.{planOf};
 ghost use Rattle.sound.specs.Sound.{Sound};
 ghost use Rattle.routing.specs.Promises.{ShortestText, UnbeatenText};
-ghost use Rattle.router.specs.Answers.{routeAnswer, bufferAfter};
+ghost use Rattle.router.specs.Answers.{RouteValues, routeValues, routeAnswer, RightFor, bufferAfter};
 ghost use Rattle.checker.specs.Answers.{checkAnswer};
-ghost use Rattle.exports.specs.Exported.{addedUp, refusalOf, planSum, oneIf, RepliesWith, RightReply, OfReply, CheckRepliesWith, RightCheckReply};
+ghost use Rattle.checker.specs.RightVerdict.{RightVerdict};
+ghost use Rattle.exports.specs.Exported.{addedUp, planSum, oneIf, RightReply, OfReply, CheckReply, checkReply};
 
 // Routes a job into a buffer, and answers in document 01's numbers: the number of the refusal, 0 where the layout is written; through
 // `line` the line that it names, 0 where it names none; through `bytes` the length of the layout, written or needed.
@@ -20,8 +22,8 @@ pub extern "C" fn hankuribo_route(
     line: &mut usize,
     bytes: &mut usize,
 ) -> usize
-    ensures answer { λ r. ⌜ RepliesWith (routeAnswer (readJob (now (job .entry))) (length (now (out .entry)))) r (now (line .exit)) (now (bytes .exit)) ⌝ }
-    ensures right { λ r. ⌜ RightReply (now (job .entry)) r (now (line .exit)) (now (bytes .exit)) ⌝ }
+    ensures answer { λ r. ⌜ routeValues (routeAnswer (readJob (now (job .entry))) (length (now (out .entry)))) ≡ record { number = r; line = now (line .exit); bytes = now (bytes .exit) } ⌝ }
+    ensures right { λ r. ⌜ RightReply routeValues (RightFor (now (job .entry)) (length (now (out .entry)))) (record { number = r; line = now (line .exit); bytes = now (bytes .exit) }) ⌝ }
     ensures buffer { λ _. ⌜ now (out .exit) ≡ bufferAfter (readJob (now (job .entry))) (now (out .entry)) ⌝ }
     ensures shortest { λ r. ⌜ OfReply (λ j text. ShortestText j (planOf j) text) (readJob (now (job .entry))) r (now (bytes .exit)) (now (out .exit)) ⌝ }
     ensures sound { λ r. ⌜ OfReply (λ j text. Sound j text) (readJob (now (job .entry))) r (now (bytes .exit)) (now (out .exit)) ⌝ }
@@ -53,8 +55,8 @@ pub extern "C" fn hankuribo_check(
     line: &mut usize,
     broken: &mut usize,
 ) -> usize
-    ensures answer { λ r. ⌜ CheckRepliesWith (checkAnswer (readJob (now (job .entry))) (now (layout .entry))) r (now (line .exit)) (now (broken .exit)) ⌝ }
-    ensures right { λ r. ⌜ RightCheckReply (now (job .entry)) (now (layout .entry)) r (now (line .exit)) (now (broken .exit)) ⌝ }
+    ensures answer { λ r. ⌜ checkReply (checkAnswer (readJob (now (job .entry))) (now (layout .entry))) ≡ record { number = r; line = now (line .exit); broken = now (broken .exit) } ⌝ }
+    ensures right { λ r. ⌜ RightReply checkReply (RightVerdict (now (job .entry)) (now (layout .entry))) (record { number = r; line = now (line .exit); broken = now (broken .exit) }) ⌝ }
 {
     let answer = checker::check(job, layout);
     *line = checker::check_line(answer);
@@ -77,7 +79,7 @@ fn add_up(sums: [usize; 128]) -> usize
 // Reads a job: the number of its refusal, 0 where it is accepted.
 #[no_mangle]
 pub extern "C" fn hankuribo_read(text: &[u8]) -> usize
-    ensures answer { λ r. ⌜ r ≡ refusalOf (readJob (now (text .entry))) ⌝ }
+    ensures answer { λ r. ⌜ r ≡ numberOf (answer (now (text .entry)) .outcome) ⌝ }
 {
     let answer = reader::read(text);
     let outcome = answer.outcome;

@@ -14,7 +14,6 @@ use Rattle.text.specs.Written.{over, Written}
 use Rattle.text.proofs.Writing.{start-written}
 use Rattle.jobfile.specs.declared.Outcome.{Outcome}
 use Rattle.jobfile.specs.Read.{accepted, refused, readJob}
-use Rattle.jobfile.specs.Faults.{Fault}
 use Rattle.jobfile.proofs.Refusals.{read-refused, read-faultless}
 use Rattle.planning.specs.Plan.{planOf}
 use Rattle.sound.specs.Sound.{Sound}
@@ -34,7 +33,7 @@ abbrev pub Promised : List ℕ → List ℕ → RouteAnswer → List ℕ → Typ
 Promised job before r after =
     (r ≡ routeAnswer (readJob job) (length before)) ×
     ((routeValues r ≡ documentValues (readJob job) (length before)) ×
-    (RightFor job r ×
+    (RightFor job (length before) r ×
     ((after ≡ bufferAfter (readJob job) before) ×
     (OfWritten (λ j text. ShortestText j (planOf j) text) (readJob job) r after ×
     (OfWritten (λ j text. Sound j text) (readJob job) r after ×
@@ -45,20 +44,18 @@ unfolding routeAnswer documentValues bufferAfter
 refused-promised job o before e = let f = read-refused job o e in rw e (refl, (refl, (f, (refl, (tt, (tt, tt))))))
 
 module _ (text : List ℕ) (job : Job) (e : readJob text ≡ accepted job) (a : AcceptedJob job) (before : List ℕ) where
-  -- the text has no fault, and the layout is short
-  right : ((o : Outcome) → Fault text o → ⊥) × (length (routeText job) ≤ 64000)
-  right = (read-faultless text job e, route-length job a)
-
   pub small-promised : (n : ℕ) → n ≡ length (routeText job) → length before < n → Promised text before (TooSmall n) before
   unfolding routeAnswer documentValues bufferAfter
   small-promised n w l =
-      rw (e, w, lt-leb (length (routeText job)) (length before) (omega arith)) (refl, (refl, (right, (refl, (tt, (tt, tt))))))
+      let r : RightFor text (length before) (TooSmall (length (routeText job))) = (read-faultless text job e, omega (arith, l, w), route-length job a) in
+      rw (e, w, lt-leb (length (routeText job)) (length before) (omega arith)) (refl, (refl, (r, (refl, (tt, (tt, tt))))))
 
   pub routed-promised : (n : ℕ) (after : List ℕ) → n ≡ length (routeText job) → after ≡ over (routeText job) before → n ≤ length before → Promised text before (Routed n) after
   unfolding routeAnswer documentValues bufferAfter
   routed-promised n after u w l =
+      let r : RightFor text (length before) (Routed (length (routeText job))) = (read-faultless text job e, omega (arith, l, u), route-length job a) in
       rw (e, u, w, le-leb (length (routeText job)) (length before) (omega arith))
-      (refl, (refl, (right, (refl, route-demanded job a _ (take-append-seam (routeText job) (drop (length (routeText job)) before))))))
+      (refl, (refl, (r, (refl, route-demanded job a _ (take-append-seam (routeText job) (drop (length (routeText job)) before))))))
 
 -- the plan of an accepted job can be drawn, its text is the one that route writes, and that is short
 module _ (stored : StoredJob) (a : AcceptedStored stored) (plan : JobPlan) (p : plan ≡ jobPlanOf (jobOf stored)) where

@@ -1,6 +1,6 @@
 -- What route promises of its answer and of the bytes written, taken out case by case: none of the cases asks nothing where it should ask.
 -- Assumes nothing.
-use Prim.Native.Nat.{ℕ, _≤_}
+use Prim.Native.Nat.{ℕ, _≤_, _<_}
 use mathlib.Core.List.{List}
 use lib.ListN.{take}
 use Rattle.board.specs.Job.{Job}
@@ -14,13 +14,14 @@ use Rattle.router.specs.Answers.{RightFor, OfWritten}
 pub written-is : (P : Job → List ℕ → Type 0) (job : Job) (n : ℕ) (out : List ℕ) → OfWritten P (accepted job) (Routed n) out → P job (take n out)
 written-is P job n out h = h
 
--- a refusal names the first fault
-pub refused-is : (text : List ℕ) (o : Outcome) → RightFor text (Refused o) → FirstFault text o
-refused-is text o h = h
+module _ (text : List ℕ) (room : ℕ) where
+  -- a refusal names the first fault
+  pub refused-is : (o : Outcome) → RightFor text room (Refused o) → FirstFault text o
+  refused-is o h = h
 
--- any other answer is for a text without a fault, and its length is at most 64,000
-pub routed-is : (text : List ℕ) (n : ℕ) → RightFor text (Routed n) → ((o : Outcome) → Fault text o → ⊥) × (n ≤ 64000)
-routed-is text n h = h
+  -- any other answer is for a text without a fault, and its length is at most 64,000: that of a layout which the buffer holds, or does not
+  pub routed-is : (n : ℕ) → RightFor text room (Routed n) → ((o : Outcome) → Fault text o → ⊥) × (n ≤ room) × (n ≤ 64000)
+  routed-is n h = h
 
-pub too-small-is : (text : List ℕ) (n : ℕ) → RightFor text (TooSmall n) → ((o : Outcome) → Fault text o → ⊥) × (n ≤ 64000)
-too-small-is text n h = h
+  pub too-small-is : (n : ℕ) → RightFor text room (TooSmall n) → ((o : Outcome) → Fault text o → ⊥) × (room < n) × (n ≤ 64000)
+  too-small-is n h = h

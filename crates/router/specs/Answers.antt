@@ -1,5 +1,5 @@
 -- Document 01, "Operations", route: its answer, the buffer afterwards, and the document's number and values of each answer.
-use Prim.Native.Nat.{ℕ, _≤_}
+use Prim.Native.Nat.{ℕ, _≤_, _<_}
 use mathlib.Core.Bool.{cond}
 use mathlib.Core.List.{List}
 use lib.Dec.{leb}
@@ -44,12 +44,12 @@ unfoldable pub bufferAfter : Read → List ℕ → List ℕ
 bufferAfter (refused o) before = before
 bufferAfter (accepted job) before = let text = routeText job in cond (leb (length text) (length before)) (over text before) before
 
--- the answer is for the faults of the job file: a refusal of read's names the first fault; any other answer is for a text without a fault, and
--- its length, written or needed, is at most 64,000
-abbrev pub RightFor : List ℕ → RouteAnswer → Type 0
-RightFor text (Refused o) = FirstFault text o
-RightFor text (TooSmall n) = ((o : Outcome) → Fault text o → ⊥) × (n ≤ 64000)
-RightFor text (Routed n) = ((o : Outcome) → Fault text o → ⊥) × (n ≤ 64000)
+-- the answer is for the faults of the job file and the bytes of the buffer: a refusal of read's names the first fault; any other answer is for a
+-- text without a fault, 10 where the length needed is above the buffer's, a length written where it is not, and the length is at most 64,000
+abbrev pub RightFor : List ℕ → ℕ → RouteAnswer → Type 0
+RightFor text room (Refused o) = FirstFault text o
+RightFor text room (TooSmall n) = ((o : Outcome) → Fault text o → ⊥) × (room < n) × (n ≤ 64000)
+RightFor text room (Routed n) = ((o : Outcome) → Fault text o → ⊥) × (n ≤ room) × (n ≤ 64000)
 
 -- P holds of the job and of the text written: where the job file is accepted and the answer is a length, the first bytes of the buffer,
 -- as many as the answer says; elsewhere nothing is written, and nothing is asked

@@ -56,7 +56,7 @@ pub fn answer_bytes(answer: RouteAnswer) -> usize
 pub fn route(job: &[u8], out: &mut [u8]) -> RouteAnswer
     ensures answer { λ r. ⌜ r ≡ routeAnswer (readJob (now (job .entry))) (length (now (out .entry))) ⌝ }
     ensures values { λ r. ⌜ routeValues r ≡ documentValues (readJob (now (job .entry))) (length (now (out .entry))) ⌝ }
-    ensures right { λ r. ⌜ RightFor (now (job .entry)) r ⌝ }
+    ensures right { λ r. ⌜ RightFor (now (job .entry)) (length (now (out .entry))) r ⌝ }
     ensures buffer { λ r. ⌜ now (out .exit) ≡ bufferAfter (readJob (now (job .entry))) (now (out .entry)) ⌝ }
     ensures shortest { λ r. ⌜ OfWritten (λ j text. ShortestText j (planOf j) text) (readJob (now (job .entry))) r (now (out .exit)) ⌝ }
     ensures sound { λ r. ⌜ OfWritten (λ j text. Sound j text) (readJob (now (job .entry))) r (now (out .exit)) ⌝ }

@@ -1,10 +1,10 @@
 -- What is promised of the numbers handed out, taken out: what they say of the faults of the job file, of the layout written and of the
 -- layout checked. Assumes nothing.
-use Prim.Native.Nat.{ℕ, _≤_}
+use Prim.Native.Nat.{ℕ, _≤_, _<_}
 use mathlib.Core.Path.{_≡_, refl, sym, ap}
 use mathlib.Core.List.{List}
 use native.Mathlib.Omega.{arith}
-use lib.ListN.{take}
+use lib.ListN.{length, take}
 use Rattle.board.specs.Job.{Job}
 use Rattle.sound.specs.Sound.{Sound}
 use Rattle.jobfile.specs.declared.Outcome.{Outcome}
@@ -12,6 +12,7 @@ use Rattle.jobfile.specs.Read.{accepted}
 use Rattle.jobfile.specs.Answers.{numberOf, lineOf}
 use Rattle.jobfile.specs.Faults.{Fault, FirstFault}
 use Rattle.jobfile.proofs.Refusals.{fault-from}
+use Rattle.jobfile.proofs.Outcomes.{number-below}
 use Rattle.router.specs.declared.RouteAnswer.{RouteAnswer}
 use Rattle.router.specs.declared.RouteAnswer.the-variants as Of
 use Rattle.router.specs.Answers.{RouteValues, routeValues, RightFor}
@@ -31,6 +32,15 @@ module _ (text : List ℕ) (room n l b : ℕ) where
   pub zero-faultless : RightReply routeValues (RightFor text room) (record { number = n; line = l; bytes = b }) → n ≡ 0 →
       ((o : Outcome) → Fault text o → ⊥) × (b ≤ room) × (b ≤ 64000)
   zero-faultless r = zero-by (r .given) (r .stands) (r .right)
+
+  ten-by : (a : RouteAnswer) → routeValues a ≡ record { number = n; line = l; bytes = b } → RightFor text room a → n ≡ 10 → room < b
+  ten-by (Of.Refused o) s r z = absurd (omega (arith, ap (λ v. v .number) s, z, number-below o))
+  ten-by (Of.TooSmall m) s r z = rw (sym (ap (λ v. v .bytes) s)) (r .1)
+  ten-by (Of.Routed m) s r z = absurd (omega (arith, ap (λ v. v .number) s, z))
+
+  -- number 10 is for a buffer that has fewer bytes than are told
+  pub ten-small : RightReply routeValues (RightFor text room) (record { number = n; line = l; bytes = b }) → n ≡ 10 → room < b
+  ten-small r = ten-by (r .given) (r .stands) (r .right)
 
   named-by : (a : RouteAnswer) → routeValues a ≡ record { number = n; line = l; bytes = b } → RightFor text room a → (o : Outcome) → Fault text o →
       (p : Outcome) × (FirstFault text p × ((n ≡ numberOf p) × (l ≡ lineOf p)))
@@ -60,6 +70,17 @@ module _ (job layout : List ℕ) (n l k : ℕ) where
   pub passed-sound : RightReply checkReply (RightVerdict job layout) (record { number = n; line = l; broken = k }) → n ≡ 0 → k ≡ 0 →
       Sound (jobHeld job) layout
   passed-sound r = passed-by (r .given) (r .stands) (r .right)
+
+  eleven-by : (a : CheckAnswer) → checkReply a ≡ record { number = n; line = l; broken = k } → RightVerdict job layout a → n ≡ 11 →
+      64000 < length layout
+  eleven-by (Is.Refused o) s r z = absurd (omega (arith, ap (λ v. v .number) s, z, number-below o))
+  eleven-by Is.LayoutTooLong s r z = r .too-long-for .0 refl .1
+  eleven-by Is.Passes s r z = absurd (omega (arith, ap (λ v. v .number) s, z))
+  eleven-by (Is.Broken m) s r z = absurd (omega (arith, ap (λ v. v .number) s, z))
+
+  -- number 11 is for a layout text above 64,000 bytes
+  pub eleven-long : RightReply checkReply (RightVerdict job layout) (record { number = n; line = l; broken = k }) → n ≡ 11 → 64000 < length layout
+  eleven-long r = eleven-by (r .given) (r .stands) (r .right)
 
   first-by : (a : CheckAnswer) → checkReply a ≡ record { number = n; line = l; broken = k } → RightVerdict job layout a → k ≡ 1 →
       FirstBreach (jobHeld job) layout l

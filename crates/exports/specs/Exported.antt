@@ -21,7 +21,7 @@ unfoldable pub planSum : Read → ℕ
 planSum (accepted job) = sumOfTracks (planOf job)
 planSum (refused o) = 0
 
--- what is handed out, v, stands for an answer that is right
+-- v, which is handed out, is what `valuesOf` gives of some answer that is `Right`
 pub record RightReply {A B : Type 0} (valuesOf : A → B) (Right : A → Type 0) (v : B) : Type 0 where
   pub given : A
   pub stands : valuesOf given ≡ v
@@ -38,12 +38,12 @@ unfoldable pub oneIf : Bool → ℕ
 oneIf true = 1
 oneIf false = 0
 
--- what is handed out of an answer of check, in document 01's words: the number, the line, and the word as a number
+-- what is handed out of an answer of check
 pub record CheckReply : Type 0 where
   pub number : ℕ
   pub line : ℕ
   pub broken : ℕ
 
--- the number and the line of an answer of check; broken is 1 where the layout is broken, otherwise 0
+-- the number and the line of an answer of check, and its word as a number: 1 where the layout is broken, otherwise 0
 abbrev pub checkReply : CheckAnswer → CheckReply
 checkReply a = record { number = checkValues a .number; line = checkValues a .line; broken = oneIf (checkValues a .broken) }

@@ -3,7 +3,7 @@
 ghost use mathlib.Core.Path.{_≡_};
 ghost use Prim.Native.Nat.{_≤_};
 ghost use Rattle.jobfile.specs.Read.{readJob};
-ghost use Rattle.jobfile.specs.Answers.{numberOf, answer};
+ghost use Rattle.jobfile.specs.Answers.{numberOf, answerOf};
 ghost use lib.ListN.{length};
 ghost use Rattle.planning.specs.Plan.{planOf};
 ghost use Rattle.sound.specs.Sound.{Sound};
@@ -79,7 +79,7 @@ fn add_up(sums: [usize; 128]) -> usize
 // Reads a job: the number of its refusal, 0 where it is accepted.
 #[no_mangle]
 pub extern "C" fn hankuribo_read(text: &[u8]) -> usize
-    ensures answer { λ r. ⌜ r ≡ numberOf (answer (now (text .entry)) .outcome) ⌝ }
+    ensures answer { λ r. ⌜ r ≡ numberOf (answerOf (readJob (now (text .entry))) .outcome) ⌝ }
 {
     let answer = reader::read(text);
     let outcome = answer.outcome;

@@ -1,10 +1,10 @@
 -- What a step over a line and a token say, taken out: no clause of theirs asks nothing. Assumes nothing.
-use mathlib.Core.Path.{_≡_}
+use mathlib.Core.Path.{_≡_, ap, _∙_}
 use mathlib.Core.Bool.{false}
-use mathlib.Core.List.{List}
-use Prim.Native.Nat.{ℕ, _+_, _-_, _<_}
+use mathlib.Core.List.{List, _∷_}
+use Prim.Native.Nat.{ℕ, _+_, _-_, _≤_, _<_}
 use native.Mathlib.Omega.{arith}
-use lib.ListN.{length, getD, drop}
+use lib.ListN.{length, getD, take, drop}
 use Rattle.text.specs.Bytes.{isBracket, lines}
 use Rattle.lines.specs.declared.Place.{Place}
 use Rattle.lines.specs.declared.Token.{Token}
@@ -14,6 +14,13 @@ use Rattle.lines.specs.Tokens.{lineWords, tokenWords}
 use Rattle.lines.specs.Tokened.{Tokened}
 
 module _ (s : List ℕ) (p : Place) (from to : ℕ) (n : Place) (d : Stepped s p from to n) where
+  -- the line begins at the place and ends within the text, and it is the first of those left
+  pub line-at : lines (drop (p .at) s) ≡ take (to - p .at) (drop (p .at) s) ∷ lines (drop (n .at) s)
+  line-at = d .line ∙ ap (λ k. take (to - k) (drop k s) ∷ lines (drop (n .at) s)) (d .starts)
+
+  pub line-within : (p .at ≤ to) × (to ≤ length s)
+  line-within = (omega (arith, d .starts, d .ordered), d .inside)
+
   -- the lines passed and those left are together as many as before
   pub lines-kept : n .passed + length (lines (drop (n .at) s)) ≡ p .passed + length (lines (drop (p .at) s))
   lines-kept = rw (d .line) (omega (arith, d .counted))

@@ -19,7 +19,7 @@ module _ (text : List ℕ) (room : ℕ) where
   pub refused-is : (o : Outcome) → RightFor text room (Refused o) → FirstFault text o
   refused-is o h = h
 
-  -- any other answer is for a text without a fault, and its length is at most 64,000: that of a layout which the buffer holds, or does not
+  -- any other answer is for a text without a fault; its length is at most the buffer's where it is written, above it where it is needed
   pub routed-is : (n : ℕ) → RightFor text room (Routed n) → ((o : Outcome) → Fault text o → ⊥) × (n ≤ room) × (n ≤ 64000)
   routed-is n h = h
 

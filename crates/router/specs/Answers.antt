@@ -44,8 +44,9 @@ unfoldable pub bufferAfter : Read → List ℕ → List ℕ
 bufferAfter (refused o) before = before
 bufferAfter (accepted job) before = let text = routeText job in cond (leb (length text) (length before)) (over text before) before
 
--- the answer is for the faults of the job file and the bytes of the buffer: a refusal of read's names the first fault; any other answer is for a
--- text without a fault, 10 where the length needed is above the buffer's, a length written where it is not, and the length is at most 64,000
+-- the answer is for the faults of the job file and the room, which is the length of the buffer: a refusal of read's names the first fault; any
+-- other answer is for a text without a fault, and its length is at most 64,000: above the room where it is needed, at most the room where it
+-- is written. That it is the layout's length says the answer's equation
 abbrev pub RightFor : List ℕ → ℕ → RouteAnswer → Type 0
 RightFor text room (Refused o) = FirstFault text o
 RightFor text room (TooSmall n) = ((o : Outcome) → Fault text o → ⊥) × (room < n) × (n ≤ 64000)

@@ -15,31 +15,36 @@ use Rattle.planning.specs.Plan.{planOf}
 use Rattle.planning.specs.Loose.{sumOfTracks}
 use Rattle.planner.specs.JobPlans.{jobPlanOf}
 use Rattle.planner.specs.declared.JobPlan.{JobPlan}
-use Rattle.exports.specs.Exported.{addedUp, planSum}
+use Rattle.exports.specs.Exported.{addedUp, refusalOf, planSum}
 use Rattle.exports.proofs.Sums.{added-plan, added-most}
 
+pub answer-number : (r : Read) → numberOf (answerOf r .outcome) ≡ refusalOf r
+unfolding answerOf refusalOf
+answer-number (accepted job) = refl
+answer-number (refused o) = refl
+
 -- a text with a number has no plan
-refused-sum : (r : Read) → (numberOf (answerOf r .outcome) ≡ 0 → ⊥) → 0 ≡ planSum r
-unfolding answerOf planSum
+refused-sum : (r : Read) → (refusalOf r ≡ 0 → ⊥) → 0 ≡ planSum r
+unfolding refusalOf planSum
 refused-sum (accepted job) h = absurd (h refl)
 refused-sum (refused o) h = refl
 
 -- a text without a number has an accepted job, and the sum of its plan
 module _ (text : List ℕ) where
-  job-from : (r : Read) → readJob text ≡ r → numberOf (answerOf r .outcome) ≡ 0 → AcceptedStored (answerOf r .job)
-  unfolding answerOf
+  job-from : (r : Read) → readJob text ≡ r → refusalOf r ≡ 0 → AcceptedStored (answerOf r .job)
+  unfolding answerOf refusalOf
   job-from (accepted job) e z = stored-accepted job (read-accepted text job e)
   job-from (refused o) e z = absurd (omega (arith, fault-from text o (read-refused text o e .fault)))
 
-  sum-from : (r : Read) → readJob text ≡ r → numberOf (answerOf r .outcome) ≡ 0 → sumOfTracks (planOf (jobOf (answerOf r .job))) ≡ planSum r
-  unfolding answerOf planSum
+  sum-from : (r : Read) → readJob text ≡ r → refusalOf r ≡ 0 → sumOfTracks (planOf (jobOf (answerOf r .job))) ≡ planSum r
+  unfolding answerOf refusalOf planSum
   sum-from (accepted job) e z = ap (λ j. sumOfTracks (planOf j)) (job-back job)
   sum-from (refused o) e z = absurd (omega (arith, fault-from text o (read-refused text o e .fault)))
 
 -- what the code holds: the answer of read, and its number
 module _ (text : List ℕ) (a : Answer) (n : ℕ) (e : a ≡ answerOf (readJob text)) (f : n ≡ numberOf (a .outcome)) where
-  pub number-given : n ≡ numberOf (answerOf (readJob text) .outcome)
-  number-given = f ∙ ap (λ (x : Answer). numberOf (x .outcome)) e
+  pub number-given : n ≡ refusalOf (readJob text)
+  number-given = f ∙ ap (λ (x : Answer). numberOf (x .outcome)) e ∙ answer-number (readJob text)
 
   pub none-given : (n ≡ 0 → ⊥) → 0 ≡ planSum (readJob text)
   none-given h = refused-sum (readJob text) (λ z. h (number-given ∙ z))

@@ -2,19 +2,22 @@
 // planning it.
 ghost use mathlib.Core.Path.{_≡_};
 ghost use Prim.Native.Nat.{_≤_};
+ghost use lib.ListN.{length, take};
 ghost use Rattle.jobfile.specs.Read.{readJob};
-ghost use Rattle.jobfile.specs.Answers.{numberOf, answerOf};
-ghost use lib.ListN.{length};
+ghost use Rattle.jobfile.specs.OfAccepted.{OfAccepted};
 ghost use Rattle.planning.specs.Plan.{planOf};
 ghost use Rattle.sound.specs.Sound.{Sound};
 ghost use Rattle.routing.specs.Promises.{ShortestText, UnbeatenText};
-ghost use Rattle.router.specs.Answers.{RouteValues, routeValues, routeAnswer, RightFor, bufferAfter};
+ghost use Rattle.router.specs.declared.RouteAnswer.{RouteAnswer};
+ghost use Rattle.router.specs.Answers.{routeAnswer, RightFor, bufferAfter};
+ghost use Rattle.checker.specs.declared.CheckAnswer.{CheckAnswer};
 ghost use Rattle.checker.specs.Answers.{checkAnswer};
 ghost use Rattle.checker.specs.RightVerdict.{RightVerdict};
-ghost use Rattle.exports.specs.Exported.{addedUp, planSum, oneIf, RightReply, OfReply, CheckReply, checkReply};
+ghost use Rattle.exports.specs.Exported.{addedUp, refusalOf, planSum, oneIf, RepliesWith, CheckRepliesWith};
 
 // Routes a job into a buffer, and answers in document 01's numbers: the number of the refusal, 0 where the layout is written; through
-// `line` the line that it names, 0 where it names none; through `bytes` the length of the layout, written or needed.
+// `line` the line that it names, 0 where it names none; through `bytes` the length of the layout, written or needed. They are the values
+// of an answer that is right. Where the number is 0, demands 2 and 3 hold of as many bytes of the buffer as are told.
 #[no_mangle]
 pub extern "C" fn hankuribo_route(
     job: &[u8],
@@ -22,12 +25,12 @@ pub extern "C" fn hankuribo_route(
     line: &mut usize,
     bytes: &mut usize,
 ) -> usize
-    ensures answer { λ r. ⌜ routeValues (routeAnswer (readJob (now (job .entry))) (length (now (out .entry)))) ≡ record { number = r; line = now (line .exit); bytes = now (bytes .exit) } ⌝ }
-    ensures right { λ r. ⌜ RightReply routeValues (RightFor (now (job .entry)) (length (now (out .entry)))) (record { number = r; line = now (line .exit); bytes = now (bytes .exit) }) ⌝ }
+    ensures answer { λ r. ⌜ RepliesWith (routeAnswer (readJob (now (job .entry))) (length (now (out .entry)))) r (now (line .exit)) (now (bytes .exit)) ⌝ }
+    ensures right { λ r. ⌜ ((a : RouteAnswer) × (RepliesWith a r (now (line .exit)) (now (bytes .exit)) × RightFor (now (job .entry)) (length (now (out .entry))) a)) ⌝ }
     ensures buffer { λ _. ⌜ now (out .exit) ≡ bufferAfter (readJob (now (job .entry))) (now (out .entry)) ⌝ }
-    ensures shortest { λ r. ⌜ OfReply (λ j text. ShortestText j (planOf j) text) (readJob (now (job .entry))) r (now (bytes .exit)) (now (out .exit)) ⌝ }
-    ensures sound { λ r. ⌜ OfReply (λ j text. Sound j text) (readJob (now (job .entry))) r (now (bytes .exit)) (now (out .exit)) ⌝ }
-    ensures unbeaten { λ r. ⌜ OfReply (λ j text. UnbeatenText j text) (readJob (now (job .entry))) r (now (bytes .exit)) (now (out .exit)) ⌝ }
+    ensures shortest { λ r. ⌜ (r ≡ 0 → OfAccepted (λ j. ShortestText j (planOf j) (take (now (bytes .exit)) (now (out .exit)))) (readJob (now (job .entry)))) ⌝ }
+    ensures sound { λ r. ⌜ (r ≡ 0 → OfAccepted (λ j. Sound j (take (now (bytes .exit)) (now (out .exit)))) (readJob (now (job .entry)))) ⌝ }
+    ensures unbeaten { λ r. ⌜ (r ≡ 0 → OfAccepted (λ j. UnbeatenText j (take (now (bytes .exit)) (now (out .exit)))) (readJob (now (job .entry)))) ⌝ }
 {
     let answer = router::route(job, out);
     *line = router::answer_line(answer);
@@ -55,8 +58,8 @@ pub extern "C" fn hankuribo_check(
     line: &mut usize,
     broken: &mut usize,
 ) -> usize
-    ensures answer { λ r. ⌜ checkReply (checkAnswer (readJob (now (job .entry))) (now (layout .entry))) ≡ record { number = r; line = now (line .exit); broken = now (broken .exit) } ⌝ }
-    ensures right { λ r. ⌜ RightReply checkReply (RightVerdict (now (job .entry)) (now (layout .entry))) (record { number = r; line = now (line .exit); broken = now (broken .exit) }) ⌝ }
+    ensures answer { λ r. ⌜ CheckRepliesWith (checkAnswer (readJob (now (job .entry))) (now (layout .entry))) r (now (line .exit)) (now (broken .exit)) ⌝ }
+    ensures right { λ r. ⌜ ((a : CheckAnswer) × (CheckRepliesWith a r (now (line .exit)) (now (broken .exit)) × RightVerdict (now (job .entry)) (now (layout .entry)) a)) ⌝ }
 {
     let answer = checker::check(job, layout);
     *line = checker::check_line(answer);
@@ -79,7 +82,7 @@ fn add_up(sums: [usize; 128]) -> usize
 // Reads a job: the number of its refusal, 0 where it is accepted.
 #[no_mangle]
 pub extern "C" fn hankuribo_read(text: &[u8]) -> usize
-    ensures answer { λ r. ⌜ r ≡ numberOf (answerOf (readJob (now (text .entry))) .outcome) ⌝ }
+    ensures answer { λ r. ⌜ r ≡ refusalOf (readJob (now (text .entry))) ⌝ }
 {
     let answer = reader::read(text);
     let outcome = answer.outcome;

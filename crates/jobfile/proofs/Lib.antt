@@ -12,3 +12,4 @@ pub mod Refusals
 pub mod Returned
 pub mod Texts
 pub mod RightOnly
+pub mod TakenOut

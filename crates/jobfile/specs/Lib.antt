@@ -5,3 +5,4 @@ pub mod TextsRead
 pub mod Answers
 pub mod Faults
 pub mod RightAnswer
+pub mod OfAccepted

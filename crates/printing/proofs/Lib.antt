@@ -1,3 +1,2 @@
 -- Laws of what the programs print.
 pub mod Printing
-pub mod TakenOut

@@ -11,6 +11,7 @@ use Rattle.board.specs.Job.{Job}
 use Rattle.text.specs.Written.{Written, over}
 use Rattle.text.proofs.Writing.{start-written}
 use Rattle.jobfile.specs.Read.{Read, accepted, refused, readJob}
+use Rattle.jobfile.specs.OfAccepted.{OfAccepted}
 use Rattle.jobfile.proofs.Accepts.{read-accepted}
 use Rattle.jobfile.proofs.Refusals.{read-refused, fault-from}
 use Rattle.planning.specs.Plan.{planOf}
@@ -22,15 +23,15 @@ use Rattle.routing.specs.Promises.{ShortestText, UnbeatenText}
 use Rattle.routing.proofs.RouteUnbeaten.{route-length, route-demanded}
 use Rattle.router.specs.declared.RouteAnswer.{RouteAnswer}
 use Rattle.router.specs.Answers.{RouteValues, routeValues, routeAnswer, bufferAfter}
-use Rattle.printing.specs.Printed.{printedText, OfLayout}
+use Rattle.printing.specs.Printed.{printedText}
 
 -- all that is promised of what is printed: the bytes t, of which the first r are printed
 abbrev pub Promised : List ℕ → List ℕ → ℕ → Type 0
 Promised text t r =
     Written (printedText (readJob text)) (replicate 64000 0) t r ×
-    (OfLayout (λ j l. ShortestText j (planOf j) l) (readJob text) (take r t) ×
-    (OfLayout (λ j l. Sound j l) (readJob text) (take r t) ×
-    OfLayout (λ j l. UnbeatenText j l) (readJob text) (take r t)))
+    (OfAccepted (λ j. ShortestText j (planOf j) (take r t)) (readJob text) ×
+    (OfAccepted (λ j. Sound j (take r t)) (readJob text) ×
+    OfAccepted (λ j. UnbeatenText j (take r t)) (readJob text)))
 
 module _ (before : List ℕ) (room : length before ≡ 64000) where
   -- every layout fits
@@ -75,7 +76,7 @@ module _ (before : List ℕ) (room : length before ≡ 64000) where
 
 -- demands 2 and 3 on what is printed, by what the text is read as
 demanded : (text : List ℕ) (y : Read) → readJob text ≡ y → (bytes : List ℕ) → bytes ≡ printedText y →
-    OfLayout (λ j l. ShortestText j (planOf j) l) y bytes × (OfLayout (λ j l. Sound j l) y bytes × OfLayout (λ j l. UnbeatenText j l) y bytes)
+    OfAccepted (λ j. ShortestText j (planOf j) bytes) y × (OfAccepted (λ j. Sound j bytes) y × OfAccepted (λ j. UnbeatenText j bytes) y)
 unfolding printedText
 demanded text (accepted job) e bytes w = route-demanded job (read-accepted text job e) bytes w
 demanded text (refused o) e bytes w = (tt, (tt, tt))

@@ -1,7 +1,6 @@
 -- Document 01, "Operations": what the program `route` prints.
 use Prim.Native.Nat.{ℕ}
 use mathlib.Core.List.{List}
-use Rattle.board.specs.Job.{Job}
 use Rattle.jobfile.specs.Read.{Read, accepted, refused}
 use Rattle.jobfile.specs.Answers.{numberOf, lineOf}
 use Rattle.reader.specs.Reports.{refusedText}
@@ -11,9 +10,3 @@ use Rattle.routing.specs.Route.{routeText}
 unfoldable pub printedText : Read → List ℕ
 printedText (accepted job) = routeText job
 printedText (refused o) = refusedText (numberOf o) (lineOf o)
-
--- P holds of the job and of the layout that is printed, where the job file is accepted; where it is refused no layout is printed, and nothing is
--- asked
-abbrev pub OfLayout : (Job → List ℕ → Type 0) → Read → List ℕ → Type 0
-OfLayout P (accepted job) printed = P job printed
-OfLayout P (refused o) printed = Unit {0}

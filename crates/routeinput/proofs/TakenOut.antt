@@ -1,11 +1,12 @@
 -- What is promised of what is printed, taken out clause by clause: none of them asks less than its words say. Assumes nothing.
-use mathlib.Core.Path.{_≡_}
+use mathlib.Core.Path.{_≡_, subst}
 use Prim.Native.Nat.{ℕ}
 use mathlib.Core.List.{List}
 use lib.ListN.{take, replicate}
 use Rattle.board.specs.Job.{Job}
 use Rattle.text.specs.Written.{over}
 use Rattle.jobfile.specs.Read.{readJob, accepted}
+use Rattle.jobfile.specs.OfAccepted.{OfAccepted}
 use Rattle.printing.specs.Printed.{printedText}
 use Rattle.files.specs.FileTexts.{textOf}
 use Rattle.text.proofs.Writing.{start-written}
@@ -23,4 +24,4 @@ module _ (r : RoutedInput) (h : InputPrinted r) where
 
 -- what is promised of the layout is asked of the bytes that are printed, where the text that was read is accepted
 pub input-is : (P : Job → List ℕ → Type 0) (r : RoutedInput) (job : Job) → readJob (textOf (r .job)) ≡ accepted job → OfInput P r → P job (take (r .printed .used) (r .printed .bytes))
-input-is P r job e h = rw e at h
+input-is P r job e h = subst (OfAccepted (λ j. P j (take (r .printed .used) (r .printed .bytes)))) e h

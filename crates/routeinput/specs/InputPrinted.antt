@@ -5,7 +5,8 @@ use lib.ListN.{replicate, take}
 use Rattle.board.specs.Job.{Job}
 use Rattle.text.specs.Written.{Written}
 use Rattle.jobfile.specs.Read.{readJob}
-use Rattle.printing.specs.Printed.{printedText, OfLayout}
+use Rattle.jobfile.specs.OfAccepted.{OfAccepted}
+use Rattle.printing.specs.Printed.{printedText}
 use Rattle.files.specs.FileTexts.{textOf}
 use Rattle.routeinput.specs.declared.RoutedInput.{RoutedInput}
 
@@ -15,4 +16,4 @@ InputPrinted r = Written (printedText (readJob (textOf (r .job)))) (replicate 64
 
 -- P holds of the job that was read and of the layout that is printed for it, where its text is accepted
 abbrev pub OfInput : (Job → List ℕ → Type 0) → RoutedInput → Type 0
-OfInput P r = OfLayout P (readJob (textOf (r .job))) (take (r .printed .used) (r .printed .bytes))
+OfInput P r = OfAccepted (λ j. P j (take (r .printed .used) (r .printed .bytes))) (readJob (textOf (r .job)))

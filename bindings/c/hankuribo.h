@@ -45,9 +45,9 @@ size_t hankuribo_route(const uint8_t *job, size_t job_length, uint8_t *out, size
 /* Checks a layout text, whoever drew it, for a job. Returns the number of the refusal, 0 where nothing is refused.
  *   *broken  1 where the layout is broken, otherwise 0
  *   *line    the first broken line, or the line that the refusal names; 0 where no line is named
- * The layout is sound where the number and *broken are 0. The first broken line is the first as order 3 judges: nothing is judged below a line
- * that is not of the form or cannot stand where it does, and the sum on the last track line above such a line is judged only if a loose
- * line or the closing line stands between. */
+ * The layout is sound where the number and *broken are 0. The first broken line is the first as order 3 judges: the judging closes at a line
+ * that is not of the form or cannot stand where it does, and at an early end of the text, where the line after the last is broken. Nothing
+ * below is judged; the sum on the last track line above is judged only if a loose line or the closing line stands between. */
 size_t hankuribo_check(const uint8_t *job, size_t job_length, const uint8_t *layout, size_t layout_length, size_t *line, size_t *broken);
 
 /* Reads a job. Returns the number of the refusal, 0 where the job is accepted. */

@@ -52,8 +52,9 @@ pub enum Refusal {
 #[derive(Clone, Copy, Debug, PartialEq, Eq)]
 pub enum Verdict {
     Sound,
-    /// broken, and this is the first broken line as order 3 judges: nothing is judged below a line that is not of the form or cannot stand
-    /// where it does
+    /// broken, and this is the first broken line as order 3 judges: the judging closes at a line that is not of the form or cannot stand
+    /// where it does, and at an early end of the text, where the line after the last is broken. Nothing below is judged; the sum on the
+    /// last track line above is judged only if a loose line or the closing line stands between
     Broken(usize),
     Refused(Refusal),
 }

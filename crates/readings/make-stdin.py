@@ -1,7 +1,7 @@
 #!/usr/bin/env python3
 # Makes stdin and stdout of this program:  make-stdin.py ROUTER VECTORS
-# ROUTER is the program of the second router; VECTORS is its folder of jobs. It was written apart from this code, from the documents and the
-# readings in docs/DECISIONS.md, and runs at the level of bench/level (bench/cases.sh says what that is).
+# ROUTER is the program of the second router; VECTORS is its folder of jobs. That router was written apart from this code, from the
+# documents and the readings in docs/DECISIONS.md, and runs at the level of bench/level (bench/cases.sh says what that is).
 # stdin has those jobs, jobs that ROUTER generates, and the texts below, each ended by byte 255. stdout has what ROUTER says of each:
 # its refusal, or (accepted) where it prints a layout. Nothing of stdout comes from the code in this repository.
 import glob, os, subprocess, sys

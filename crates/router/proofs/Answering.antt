@@ -44,11 +44,15 @@ unfolding routeAnswer documentValues bufferAfter
 refused-promised job o before e = let f = read-refused job o e in rw e (refl, (refl, (f, (refl, (tt, (tt, tt))))))
 
 module _ (text : List ℕ) (job : Job) (e : readJob text ≡ accepted job) (a : AcceptedJob job) (before : List ℕ) where
+  -- the text that route writes is a layout of the job
+  layout-length : (layout : List ℕ) × (ShortestText job (planOf job) layout × (Sound job layout × (length layout ≡ length (routeText job))))
+  layout-length = let d = route-demanded job a (routeText job) refl in (routeText job, (d .0, (d .1 .0, refl)))
+
   pub small-promised : (n : ℕ) → n ≡ length (routeText job) → length before < n → Promised text before (TooSmall n) before
   unfolding routeAnswer documentValues bufferAfter
   small-promised n w l =
-      let r : RightFor text (length before) (TooSmall (length (routeText job))) = (read-faultless text job e, omega (arith, l, w), route-length job a) in
-      rw (e, w, lt-leb (length (routeText job)) (length before) (omega arith)) (refl, (refl, (r, (refl, (tt, (tt, tt))))))
+      rw (e, w, lt-leb (length (routeText job)) (length before) (omega arith))
+      (refl, (refl, ((read-faultless text job e, omega (arith, l, w), route-length job a, layout-length), (refl, (tt, (tt, tt))))))
 
   pub routed-promised : (n : ℕ) (after : List ℕ) → n ≡ length (routeText job) → after ≡ over (routeText job) before → n ≤ length before → Promised text before (Routed n) after
   unfolding routeAnswer documentValues bufferAfter

@@ -1,14 +1,20 @@
--- What route promises of its answer and of the bytes written, taken out case by case: none of the cases asks nothing where it should ask.
--- Assumes nothing.
+-- What route promises of its answer and of the bytes written, taken out case by case: each asks what its words say. Assumes nothing.
 use Prim.Native.Nat.{ℕ, _≤_, _<_}
+use mathlib.Core.Path.{_≡_, sym, ap, _∙_}
 use mathlib.Core.List.{List}
-use lib.ListN.{take}
+use lib.ListN.{length, take}
 use Rattle.board.specs.Job.{Job}
-use Rattle.jobfile.specs.Read.{accepted}
+use Rattle.board.specs.Accepted.{AcceptedJob}
+use Rattle.jobfile.specs.Read.{accepted, readJob}
 use Rattle.jobfile.specs.declared.Outcome.{Outcome}
 use Rattle.jobfile.specs.Faults.{Fault, FirstFault}
+use Rattle.planning.specs.Plan.{planOf}
+use Rattle.sound.specs.Sound.{Sound}
+use Rattle.routing.specs.Promises.{ShortestText}
+use Rattle.routing.specs.Route.{routeText}
+use Rattle.routing.proofs.OnlyText.{only-text}
 use Rattle.router.specs.declared.RouteAnswer.the-variants.{Refused, TooSmall, Routed}
-use Rattle.router.specs.Answers.{RightFor, OfWritten}
+use Rattle.router.specs.Answers.{LayoutLength, RightFor, OfWritten}
 
 -- where the job is accepted and the answer is a length, the promise is about that many bytes of the buffer
 pub written-is : (P : Job → List ℕ → Type 0) (job : Job) (n : ℕ) (out : List ℕ) → OfWritten P (accepted job) (Routed n) out → P job (take n out)
@@ -23,5 +29,11 @@ module _ (text : List ℕ) (room : ℕ) where
   pub routed-is : (n : ℕ) → RightFor text room (Routed n) → ((o : Outcome) → Fault text o → ⊥) × (n ≤ room) × (n ≤ 64000)
   routed-is n h = h
 
-  pub too-small-is : (n : ℕ) → RightFor text room (TooSmall n) → ((o : Outcome) → Fault text o → ⊥) × (room < n) × (n ≤ 64000)
+  pub too-small-is : (n : ℕ) → RightFor text room (TooSmall n) → ((o : Outcome) → Fault text o → ⊥) × (room < n) × (n ≤ 64000) × LayoutLength text n
   too-small-is n h = h
+
+  -- the length that is needed is that of the text which route would write
+  pub needed-is : (job : Job) → readJob text ≡ accepted job → AcceptedJob job → (n : ℕ) → RightFor text room (TooSmall n) → n ≡ length (routeText job)
+  needed-is job e a n h =
+      let w : (layout : List ℕ) × (ShortestText job (planOf job) layout × (Sound job layout × (length layout ≡ n))) = rw e at (h .3) in
+      sym (w .1 .1 .1) ∙ ap length (only-text job a (w .0) (w .1 .1 .0) (w .1 .0))

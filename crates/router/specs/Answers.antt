@@ -1,15 +1,20 @@
 -- Document 01, "Operations", route: its answer, the buffer afterwards, and the document's number and values of each answer.
 use Prim.Native.Nat.{ℕ, _≤_, _<_}
+use mathlib.Core.Path.{_≡_}
 use mathlib.Core.Bool.{cond}
 use mathlib.Core.List.{List}
 use lib.Dec.{leb}
 use lib.ListN.{length, take}
 use Rattle.board.specs.Job.{Job}
 use Rattle.text.specs.Written.{over}
-use Rattle.jobfile.specs.Read.{Read, accepted, refused}
+use Rattle.jobfile.specs.Read.{Read, accepted, refused, readJob}
+use Rattle.jobfile.specs.OfAccepted.{OfAccepted}
 use Rattle.jobfile.specs.declared.Outcome.{Outcome}
 use Rattle.jobfile.specs.Answers.{outcomeValues}
 use Rattle.jobfile.specs.Faults.{Fault, FirstFault}
+use Rattle.planning.specs.Plan.{planOf}
+use Rattle.sound.specs.Sound.{Sound}
+use Rattle.routing.specs.Promises.{ShortestText}
 use Rattle.routing.specs.Route.{routeText}
 use Rattle.router.specs.declared.RouteAnswer.{RouteAnswer}
 use Rattle.router.specs.declared.RouteAnswer.the-variants.{Refused, TooSmall, Routed}
@@ -44,12 +49,17 @@ unfoldable pub bufferAfter : Read → List ℕ → List ℕ
 bufferAfter (refused o) before = before
 bufferAfter (accepted job) before = let text = routeText job in cond (leb (length text) (length before)) (over text before) before
 
+-- n is the length of a sound layout of the job, with the wires planned at their shortest lengths. There is one such text
+-- (routing/proofs/OnlyText)
+abbrev pub LayoutLength : List ℕ → ℕ → Type 0
+LayoutLength text n = OfAccepted (λ j. (layout : List ℕ) × (ShortestText j (planOf j) layout × (Sound j layout × (length layout ≡ n)))) (readJob text)
+
 -- the answer is for the faults of the job file and the room, which is the length of the buffer: a refusal of read's names the first fault; any
--- other answer is for a text without a fault, and its length is at most 64,000: above the room where it is needed, at most the room where it
--- is written. That it is the layout's length says the answer's equation
+-- other answer is for a text without a fault, and its length is at most 64,000: at most the room where it is written, above the room where
+-- it is needed, and then the length of the layout
 abbrev pub RightFor : List ℕ → ℕ → RouteAnswer → Type 0
 RightFor text room (Refused o) = FirstFault text o
-RightFor text room (TooSmall n) = ((o : Outcome) → Fault text o → ⊥) × (room < n) × (n ≤ 64000)
+RightFor text room (TooSmall n) = ((o : Outcome) → Fault text o → ⊥) × (room < n) × (n ≤ 64000) × LayoutLength text n
 RightFor text room (Routed n) = ((o : Outcome) → Fault text o → ⊥) × (n ≤ room) × (n ≤ 64000)
 
 -- P holds of the job and of the text written: where the job file is accepted and the answer is a length, the first bytes of the buffer,

@@ -1,6 +1,6 @@
--- `RightAnswer` leaves one answer: its outcome and its job are those that read returns. So no clause of it but `job-accepted`, of `FirstFault`
--- or of `Fault` can be left out or weakened: another answer would be right too. `job-accepted` follows from the clauses above it, and is said
--- for those who use the job. Assumes nothing.
+-- `RightAnswer` leaves one answer: its outcome and its job are those that read returns. So, but for `job-accepted`, no clause of it, of
+-- `FirstFault` or of `Fault` can be left out or weakened: another answer would be right too. `job-accepted` follows from the clauses above it,
+-- and is said for those who use the job. Assumes nothing.
 use Prim.Native.Nat.{ℕ, zero, suc}
 use mathlib.Core.Path.{_≡_, refl, sym, ap, _∙_}
 use mathlib.Core.List.{List}

@@ -7,8 +7,10 @@ use lib.ListN.{replicate, length-replicate}
 use Rattle.board.specs.Job.{Job}
 use Rattle.board.specs.WorkedBoard.{workedJob}
 use Rattle.text.specs.Bytes.{bytes, lines}
+use Rattle.jobfile.specs.declared.Form.the-variants as Is
 use Rattle.jobfile.specs.declared.Outcome.the-variants.{NotOfForm, OutOfRange, TooMany, NumberNotAbove, PinUsed, SameRow, NoLength, TooFewRows}
 use Rattle.jobfile.specs.Read.{start, stop, netOf, blockOf, boardOf, emptyJob, addNet, addBlock, accepted, refused, readFrom, readJob}
+use Rattle.jobfile.specs.Faults.{formsOf, withForm, jobFrom, jobIn}
 use Rattle.board.specs.Accepted.{AcceptedJob}
 use Rattle.jobfile.proofs.Accepts.{read-accepted}
 use Rattle.jobfile.proofs.Tests.{read-cases}
@@ -33,6 +35,13 @@ lines-end :
     (readAs "(board\n(rows 5)\n(tracks 1)\n)\n(block 1 1 1)\n" ≡ refused (NotOfForm 5))
 unfolding readAs
 lines-end = (refl, refl, refl, refl)
+
+-- a form for each line, blank ones too, and none behind the last byte 10
+line-forms :
+    (formsOf (bytes "\n(board\n  \n(rows 5)\n)\n\n") ≡ Is.Blank ∷ Is.Board ∷ Is.Blank ∷ Is.Rows 5 ∷ Is.Close ∷ Is.Blank ∷ []) ×
+    (formsOf (bytes "(board\n)") ≡ Is.Board ∷ Is.Close ∷ [])
+unfolding readAs
+line-forms = (refl, refl)
 
 -- byte 32 alone is a space
 spaces :
@@ -114,6 +123,11 @@ worked-board = refl
 pub worked-accepted : AcceptedJob workedJob
 unfolding readAs
 worked-accepted = read-accepted (bytes workedText) workedJob worked-board
+
+-- the lines of the worked board hold the worked job
+worked-held : jobIn (formsOf (bytes workedText)) ≡ workedJob
+unfolding readAs withForm jobFrom
+worked-held = refl
 
 -- n empty lines end early at line n + 1, so 64,000 of them at line 64,001
 empty-from : (n k : ℕ) → readFrom k start (lines (replicate n 10)) ≡ refused (NotOfForm (k + n))

@@ -64,6 +64,8 @@ def apply(edit, crate):
 def first_error(log, folder):
     """The first error that is not about a declaration refused before it, and how the two sides differ, where it says so. Where the prover
     makes the proof itself, what it could not show."""
+    if not log.is_file():
+        return ['refused, and there is no log']
     found = []
     for line in log.read_text(errors='replace').split('\n'):
         line = line.replace(str(folder) + '/', '')[:400]
@@ -129,15 +131,17 @@ def tried_alone(edits):
 
 
 def chosen(words):
-    """The edits that the words name, all of them where there are none."""
+    """The edits that the words name, all of them where there are none. A word that names none is an error."""
     edits = sorted(root.glob('crates/*/weaker/*.edit'))
-    return [e for e in edits if not words or e.parent.parent.name in words or f'{e.parent.parent.name}/{e.stem}' in words]
+    named = {e: {e.parent.parent.name, f'{e.parent.parent.name}/{e.stem}'} for e in edits}
+    unknown = set(words).difference(*named.values())
+    if unknown:
+        sys.exit('\n'.join(f'weaker.py: no such edit: {word}' for word in words if word in unknown))
+    return [e for e in edits if not words or named[e].intersection(words)]
 
 
 def main():
     edits = chosen(sys.argv[1:])
-    if not edits:
-        sys.exit('weaker.py: no such edit')
     alone = [e for e in edits if not other_crate(e)]
     above = [e for e in edits if other_crate(e)]
     answers = tried_alone(alone) if alone else {}

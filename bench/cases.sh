@@ -1,7 +1,7 @@
 # What boards.sh and layouts.sh share; sourced, not run. Told the folder of the second router and the two files to make, it builds the second
 # router below target/bench/, sets its level and empties the files.
 #
-# bench/level has the level: the number of the last order, or request after document 01, that is delivered, 0 if none. The second router
+# bench/level has the level: the number of the last order (a request after document 01) that is delivered, 0 if none. The second router
 # then behaves as the system after that order. Its check names the first broken line as order 3 judges at every level, as ours does before any order.
 set -eu
 LC_ALL=C

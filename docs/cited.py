@@ -8,7 +8,7 @@ always prints the number of citations. The exit status is 1 if something is miss
 
 It looks at the text in back quotes in README.md, docs/*.md and docs/orders/*.md, indented and fenced text left out:
 
-    X/specs/F  X/specs/F.d  X/proofs/F.t     a file of the crate X, what it declares
+    X/specs/F  X/specs/F.d  X/specs/F.d.f    a file of the crate X; what it declares; a field or case of that
     X::f  X::m::f  X::f.c                    an item of the crate X, in its module m; a clause `ensures c` of its contract, or a field
     .d  ::f                                  goes on from the citation before: another name of its file or item, another item of its module
     X/must-fail/e  X/weaker/e                a wrong version; another name with a `_` behind it is of the same folder
@@ -56,7 +56,7 @@ DECLARED = {
 def declaration(path, name):
     """Where a source declares a name: the match up to it, whose first two groups are the indentation and the word in front. None if it
     does not."""
-    pattern = DECLARED[path.suffix].replace('NAME', re.escape(name)).replace('END', END)
+    pattern = DECLARED[path.suffix].replace('END', END).replace('NAME', re.escape(name))
     return re.search(pattern, sources[path], re.M)
 
 
@@ -68,6 +68,8 @@ def body(path, name):
     lines = sources[path][found.end():].split('\n')
     own = rf'{found[1]}(?: |{re.escape(name)}{END}|unfolding |[){{}}])|\s*(?:--|//|$)'
     end = next((at for at, line in enumerate(lines[1:], 1) if not re.match(own, line)), len(lines))
+    while end > 1 and re.match(r'\s*(?:--|//|$)', lines[end - 1]):
+        end -= 1
     return '\n'.join(lines[:end])
 
 
@@ -92,7 +94,7 @@ def in_file(cited, last, part):
         return None
     path = crates / (found[1] + '.antt')
     outer, *inner = [name for name in found[2].split('.')[1:] if name != 'antt'] or ['']
-    last.update(path=path, item=None, whole=outer and body(path, outer) if path in sources else '')
+    last.update(path=path, item=None, specs=None, whole=outer and body(path, outer) if path in sources else '')
     if path not in sources:
         return 'no such file' if outer or not path.with_suffix('').is_dir() else ''
     if outer and not declaration(path, outer):
@@ -125,7 +127,7 @@ def in_code(cited, last, part):
         folder = crates / crate / 'src'
         last['module'] = next((path for path in (folder / (name + '.rt') for name in (*outer[:1], 'lib', 'main')) if path in sources), None)
     path = last.get('module')
-    last.update(path=path, item=item, whole='')
+    last.update(path=path, item=item, specs=None, whole='')
     if not path:
         return 'no such crate'
     if not all(declaration(path, name) for name in [*outer, item] if name != path.stem):
@@ -169,7 +171,7 @@ def any_name(cited, last, part):
         return '' if last['specs'] / (cited + '.antt') in sources else 'no such file there'
     if part and last.get('whole'):
         return '' if has_word(last['whole'], cited) else 'not in that declaration'
-    last.update(path=None, item=None, whole='')
+    last.update(path=None, item=None, specs=None, whole='')
     if '.' not in cited or cited in names:
         return '' if cited in words else 'no such name'
     outer, inner = cited.split('.', 1)

@@ -1,18 +1,11 @@
 -- What route promises of its answer and of the bytes written, taken out case by case: each asks what its words say. Assumes nothing.
 use Prim.Native.Nat.{ℕ, _≤_, _<_}
-use mathlib.Core.Path.{_≡_, sym, ap, _∙_}
 use mathlib.Core.List.{List}
-use lib.ListN.{length, take}
+use lib.ListN.{take}
 use Rattle.board.specs.Job.{Job}
-use Rattle.board.specs.Accepted.{AcceptedJob}
-use Rattle.jobfile.specs.Read.{accepted, readJob}
+use Rattle.jobfile.specs.Read.{accepted}
 use Rattle.jobfile.specs.declared.Outcome.{Outcome}
 use Rattle.jobfile.specs.Faults.{Fault, FirstFault}
-use Rattle.planning.specs.Plan.{planOf}
-use Rattle.sound.specs.Sound.{Sound}
-use Rattle.routing.specs.Promises.{ShortestText}
-use Rattle.routing.specs.Route.{routeText}
-use Rattle.routing.proofs.OnlyText.{only-text}
 use Rattle.router.specs.declared.RouteAnswer.the-variants.{Refused, TooSmall, Routed}
 use Rattle.router.specs.Answers.{LayoutLength, RightFor, OfWritten}
 
@@ -31,9 +24,3 @@ module _ (text : List ℕ) (room : ℕ) where
 
   pub too-small-is : (n : ℕ) → RightFor text room (TooSmall n) → ((o : Outcome) → Fault text o → ⊥) × (room < n) × (n ≤ 64000) × LayoutLength text n
   too-small-is n h = h
-
-  -- the length that is needed is that of the text which route would write
-  pub needed-is : (job : Job) → readJob text ≡ accepted job → AcceptedJob job → (n : ℕ) → RightFor text room (TooSmall n) → n ≡ length (routeText job)
-  needed-is job e a n h =
-      let w : (layout : List ℕ) × (ShortestText job (planOf job) layout × (Sound job layout × (length layout ≡ n))) = rw e at (h .3) in
-      sym (w .1 .1 .1) ∙ ap length (only-text job a (w .0) (w .1 .1 .0) (w .1 .0))

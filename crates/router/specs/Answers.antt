@@ -49,8 +49,8 @@ unfoldable pub bufferAfter : Read → List ℕ → List ℕ
 bufferAfter (refused o) before = before
 bufferAfter (accepted job) before = let text = routeText job in cond (leb (length text) (length before)) (over text before) before
 
--- n is the length of a sound layout of the job, with the wires planned at their shortest lengths. There is one such text
--- (routing/proofs/OnlyText)
+-- n is the length of a sound layout of the job that has the planned wires, each at its shortest length; of a refused text nothing is asked.
+-- There is one such layout (routing/proofs/OnlyText)
 abbrev pub LayoutLength : List ℕ → ℕ → Type 0
 LayoutLength text n = OfAccepted (λ j. (layout : List ℕ) × (ShortestText j (planOf j) layout × (Sound j layout × (length layout ≡ n)))) (readJob text)
 

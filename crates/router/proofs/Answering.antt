@@ -26,7 +26,7 @@ use Rattle.drawer.specs.PlanText.{planText, DrawablePlan}
 use Rattle.drawer.proofs.PlanDrawable.{plan-is-route, plan-drawable}
 use Rattle.router.specs.declared.RouteAnswer.{RouteAnswer}
 use Rattle.router.specs.declared.RouteAnswer.the-variants.{Refused, TooSmall, Routed}
-use Rattle.router.specs.Answers.{routeValues, documentValues, routeAnswer, RightFor, bufferAfter, OfWritten}
+use Rattle.router.specs.Answers.{routeValues, documentValues, routeAnswer, LayoutLength, RightFor, bufferAfter, OfWritten}
 
 -- all that route promises of its answer and of the buffer afterwards
 abbrev pub Promised : List ℕ → List ℕ → RouteAnswer → List ℕ → Type 0
@@ -45,7 +45,7 @@ refused-promised job o before e = let f = read-refused job o e in rw e (refl, (r
 
 module _ (text : List ℕ) (job : Job) (e : readJob text ≡ accepted job) (a : AcceptedJob job) (before : List ℕ) where
   -- the text that route writes is a layout of the job
-  layout-length : (layout : List ℕ) × (ShortestText job (planOf job) layout × (Sound job layout × (length layout ≡ length (routeText job))))
+  layout-length : LayoutLength job (length (routeText job))
   layout-length = let d = route-demanded job a (routeText job) refl in (routeText job, (d .0, (d .1 .0, refl)))
 
   pub small-promised : (n : ℕ) → n ≡ length (routeText job) → length before < n → Promised text before (TooSmall n) before

@@ -7,13 +7,10 @@ use Rattle.board.specs.Job.{Job}
 use Rattle.jobfile.specs.Faults.{formsOf, jobIn}
 use Rattle.jobfile.proofs.Refusals.{faultless-accepted}
 use Rattle.jobfile.proofs.Accepts.{read-accepted}
-use Rattle.planning.specs.Plan.{planOf}
-use Rattle.sound.specs.Sound.{Sound}
-use Rattle.routing.specs.Promises.{ShortestText}
 use Rattle.routing.specs.Route.{routeText}
 use Rattle.routing.proofs.OnlyText.{only-text}
 use Rattle.router.specs.declared.RouteAnswer.the-variants.{TooSmall}
-use Rattle.router.specs.Answers.{RightFor}
+use Rattle.router.specs.Answers.{LayoutLength, RightFor}
 use Rattle.router.proofs.TakenOut.{too-small-is}
 
 module _ (text : List ℕ) (room : ℕ) where
@@ -25,5 +22,5 @@ module _ (text : List ℕ) (room : ℕ) where
   needed-is n h =
       let s = too-small-is text room n h in
       let e = faultless-accepted text (s .0) in
-      let w : (layout : List ℕ) × (ShortestText held (planOf held) layout × (Sound held layout × (length layout ≡ n))) = rw e at (s .3) in
+      let w : LayoutLength held n = rw e at (s .3) in
       sym (w .1 .1 .1) ∙ ap length (only-text held (read-accepted text held e) (w .0) (w .1 .1 .0) (w .1 .0))

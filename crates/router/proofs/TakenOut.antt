@@ -3,7 +3,8 @@ use Prim.Native.Nat.{ℕ, _≤_, _<_}
 use mathlib.Core.List.{List}
 use lib.ListN.{take}
 use Rattle.board.specs.Job.{Job}
-use Rattle.jobfile.specs.Read.{accepted}
+use Rattle.jobfile.specs.Read.{accepted, readJob}
+use Rattle.jobfile.specs.OfAccepted.{OfAccepted}
 use Rattle.jobfile.specs.declared.Outcome.{Outcome}
 use Rattle.jobfile.specs.Faults.{Fault, FirstFault}
 use Rattle.router.specs.declared.RouteAnswer.the-variants.{Refused, TooSmall, Routed}
@@ -22,5 +23,5 @@ module _ (text : List ℕ) (room : ℕ) where
   pub routed-is : (n : ℕ) → RightFor text room (Routed n) → ((o : Outcome) → Fault text o → ⊥) × (n ≤ room) × (n ≤ 64000)
   routed-is n h = h
 
-  pub too-small-is : (n : ℕ) → RightFor text room (TooSmall n) → ((o : Outcome) → Fault text o → ⊥) × (room < n) × (n ≤ 64000) × LayoutLength text n
+  pub too-small-is : (n : ℕ) → RightFor text room (TooSmall n) → ((o : Outcome) → Fault text o → ⊥) × (room < n) × (n ≤ 64000) × OfAccepted (λ j. LayoutLength j n) (readJob text)
   too-small-is n h = h

@@ -49,17 +49,17 @@ unfoldable pub bufferAfter : Read → List ℕ → List ℕ
 bufferAfter (refused o) before = before
 bufferAfter (accepted job) before = let text = routeText job in cond (leb (length text) (length before)) (over text before) before
 
--- n is the length of a sound layout of the job that has the planned wires, each at its shortest length; of a refused text nothing is asked.
--- There is one such layout (routing/proofs/OnlyText)
-abbrev pub LayoutLength : List ℕ → ℕ → Type 0
-LayoutLength text n = OfAccepted (λ j. (layout : List ℕ) × (ShortestText j (planOf j) layout × (Sound j layout × (length layout ≡ n)))) (readJob text)
+-- n is the length of a sound layout of the job that has the planned wires, each at its shortest length. There is one such layout
+-- (routing/proofs/OnlyText)
+abbrev pub LayoutLength : Job → ℕ → Type 0
+LayoutLength job n = (layout : List ℕ) × (ShortestText job (planOf job) layout × (Sound job layout × (length layout ≡ n)))
 
 -- the answer is for the faults of the job file and the room, which is the length of the buffer: a refusal of read's names the first fault; any
 -- other answer is for a text without a fault, and its length is at most 64,000: at most the room where it is written, above the room where
--- it is needed, and then the length of the layout
+-- it is needed, and then it is the layout's
 abbrev pub RightFor : List ℕ → ℕ → RouteAnswer → Type 0
 RightFor text room (Refused o) = FirstFault text o
-RightFor text room (TooSmall n) = ((o : Outcome) → Fault text o → ⊥) × (room < n) × (n ≤ 64000) × LayoutLength text n
+RightFor text room (TooSmall n) = ((o : Outcome) → Fault text o → ⊥) × (room < n) × (n ≤ 64000) × OfAccepted (λ j. LayoutLength j n) (readJob text)
 RightFor text room (Routed n) = ((o : Outcome) → Fault text o → ⊥) × (n ≤ room) × (n ≤ 64000)
 
 -- P holds of the job and of the text written: where the job file is accepted and the answer is a length, the first bytes of the buffer,

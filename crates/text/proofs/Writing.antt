@@ -107,6 +107,10 @@ chain-at {at} {a} {b} {s} {t} {u} {r} {k} h v w =
 pub byte-at : (at : ℕ) (s : List ℕ) (d : ℕ) → at < length s → WrittenAt at (d ∷ []) s (set s at d) (at + 1)
 byte-at at s d h = record { next = refl; bytes = at-byte at s d h }
 
+-- what stands from place 0 on stands at the start
+pub from-start : {w s t : List ℕ} {r : ℕ} → WrittenAt 0 w s t r → Written w s t r
+from-start v = record { used = omega (arith, v .next); bytes = v .bytes }
+
 -- A number: one digit; the digits of a tenth, and one more
 
 pub first-digit : (n : ℕ) (s : List ℕ) → n < 10 → 1 ≤ length s → Written (digits n) s (set s 0 (48 + n)) 1

@@ -1,13 +1,10 @@
 -- The lines of a layout in the parts that the writers write one after another, and their lengths. Assumes nothing.
-use Prim.Native.Nat.{ℕ, _+_}
+use Prim.Native.Nat.{ℕ}
 use mathlib.Core.Path.{_≡_, refl, ap}
 use mathlib.Core.List.{List, [], _∷_, _++_, append-assoc}
-use native.Mathlib.Omega.{arith}
-use lib.ListN.{length, length-append}
 use Rattle.lists.proofs.Cases.{by-test}
 use Rattle.text.specs.Digits.{digits}
-use Rattle.text.specs.Written.{Written, WrittenAt}
-use Rattle.keywords.specs.Keywords.{wordOf, wireWord}
+use Rattle.keywords.specs.Keywords.{wordOf, wireWord, headText}
 use Rattle.keywords.specs.declared.Vocabulary.the-variants.{Layout}
 use Rattle.board.specs.declared.Board.{Board}
 use Rattle.board.specs.declared.Net.{Net}
@@ -20,15 +17,7 @@ use Rattle.layout.specs.Tree.{opens, track, loose, closes}
 use Rattle.layout.specs.LayoutText.{pointsThen, lineText}
 use Rattle.layout.specs.Drawing.{at, samePoint, distinctFrom, corners, pointsOn, wireOf}
 use Rattle.wirepoints.specs.Points.{pointText, nextText, pathText, pinText, pointsText}
-use Rattle.writer.specs.Lines.{endedLine, headText, wireLine}
-
-pub head-parts : (i n : ℕ) → headText i n ≡ ((32 ∷ 40 ∷ []) ++ wordOf Layout i) ++ (32 ∷ digits n)
-unfolding headText
-head-parts i n = simp append-assoc
-
-pub head-length : (i n : ℕ) → length (headText i n) ≡ 3 + length (wordOf Layout i) + length (digits n)
-unfolding headText
-head-length i n = simp length-append (omega arith)
+use Rattle.writer.specs.Lines.{endedLine, wireLine}
 
 pub opening-parts : endedLine opens ≡ ((40 ∷ []) ++ wordOf Layout 0) ++ (10 ∷ [])
 unfolding lineText wordOf
@@ -38,11 +27,11 @@ pub closing-parts : endedLine closes ≡ 41 ∷ 10 ∷ []
 unfolding lineText
 closing-parts = refl
 
-pub track-parts : (t n : ℕ) → endedLine (track t n) ≡ (headText 1 t ++ (32 ∷ digits n)) ++ (41 ∷ 10 ∷ [])
+pub track-parts : (t n : ℕ) → endedLine (track t n) ≡ (headText Layout 1 t ++ (32 ∷ digits n)) ++ (41 ∷ 10 ∷ [])
 unfolding lineText headText wordOf
 track-parts t n = simp append-assoc
 
-pub loose-parts : (n : ℕ) → endedLine (loose n) ≡ headText 3 n ++ (41 ∷ 10 ∷ [])
+pub loose-parts : (n : ℕ) → endedLine (loose n) ≡ headText Layout 3 n ++ (41 ∷ 10 ∷ [])
 unfolding lineText headText wordOf
 loose-parts n = simp append-assoc
 
@@ -64,12 +53,8 @@ tail-parts : (d p q : List ℕ) → q ≡ p ++ (41 ∷ []) → (d ++ q) ++ (10 �
 tail-parts d p q e = rw e (simp append-assoc)
 
 pub wire-parts : (board : Board) (t : Track) (net : Net) (shape : Shape) (top : Row) →
-    wireLine board t net shape top ≡ (headText 2 (net .number) ++ pointsText board t net shape top) ++ (41 ∷ 10 ∷ [])
+    wireLine board t net shape top ≡ (headText Layout 2 (net .number) ++ pointsText board t net shape top) ++ (41 ∷ 10 ∷ [])
 unfolding lineText headText wordOf wireOf
 wire-parts board t net shape top =
     ap (λ (l : List ℕ). 32 ∷ 40 ∷ (wireWord ++ (32 ∷ l)))
     (tail-parts (digits (net .number)) (pointsText board t net shape top) _ (wire-points board t net shape top (41 ∷ [])))
-
--- what stands from place 0 on stands at the start
-pub from-start : {w s t : List ℕ} {r : ℕ} → WrittenAt 0 w s t r → Written w s t r
-from-start v = record { used = omega (arith, v .next); bytes = v .bytes }

@@ -1,9 +1,6 @@
 -- The lines of a layout in the parts that the writers write.
 use Prim.Native.Nat.{ℕ}
 use mathlib.Core.List.{List, [], _∷_, _++_}
-use Rattle.text.specs.Digits.{digits}
-use Rattle.keywords.specs.Keywords.{wordOf}
-use Rattle.keywords.specs.declared.Vocabulary.the-variants.{Layout}
 use Rattle.board.specs.declared.Board.{Board}
 use Rattle.board.specs.declared.Net.{Net}
 use Rattle.board.specs.declared.Row.{Row}
@@ -18,10 +15,6 @@ pub use Rattle.wirepoints.specs.Points.{Drawable}
 -- a line and its byte 10
 abbrev pub endedLine : Line → List ℕ
 endedLine x = lineText x ++ (10 ∷ [])
-
--- how an inner line begins: " (word number", with word i of the layout's table
-unfoldable pub headText : ℕ → ℕ → List ℕ
-headText i n = (32 ∷ 40 ∷ []) ++ (wordOf Layout i ++ (32 ∷ digits n))
 
 -- the line of the wire that draws a placement on a track, and its byte 10
 abbrev pub wireLine : Board → Track → Net → Shape → Row → List ℕ

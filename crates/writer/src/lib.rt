@@ -1,8 +1,8 @@
 // The lines of a layout, each written into the rest of a lent buffer; a writer is told the place and returns the next one.
-ghost use Prim.Native.Nat.{_+_, _≤_, _<_};
+ghost use Prim.Native.Nat.{_+_, _≤_};
 ghost use lib.ListN.{length};
 ghost use Rattle.text.specs.Written.{Written, WrittenAt};
-ghost use Rattle.writer.specs.Lines.{headText, wireLine, Drawable, endedLine};
+ghost use Rattle.writer.specs.Lines.{wireLine, Drawable, endedLine};
 ghost use Rattle.layout.specs.Tree.{opens as openingLine, track as trackLine, loose as looseLine, closes as closingLine};
 use board::Board;
 use board::Net;
@@ -11,16 +11,6 @@ use board::Shape;
 use board::Track;
 use keywords::Vocabulary;
 use wirepoints::put_points;
-
-// Writes how an inner line begins, " (word number", with word i of the layout's table.
-fn put_head(out: &mut [u8], at: usize, i: usize, number: usize) -> usize
-    requires { ⌜ (i < 4) × (at + length (headText i number) ≤ length (now out)) ⌝ }
-    ensures { λ r. ⌜ WrittenAt at (headText i number) (now (out .entry)) (now (out .exit)) r ⌝ }
-{
-    let a = text::put_bytes_at(out, at, b" (");
-    let b = keywords::put_word_at(out, a, Vocabulary::Layout, i);
-    text::put_spaced(out, b, number)
-}
 
 // The line writers: each writes its line at the start of the rest of the buffer that it is lent, and returns the bytes used.
 
@@ -38,7 +28,7 @@ pub fn wire_line(
     ensures { λ e. ⌜ Written (wireLine board track net shape top) (now (out .entry)) (now (out .exit)) e ⌝ }
 {
     let number = net.number;
-    let a = put_head(out, 0, 2, number);
+    let a = keywords::put_head(out, 0, Vocabulary::Layout, 2, number);
     let b = put_points(out, a, board, track, net, shape, top);
     text::put_bytes_at(out, b, b")\n")
 }
@@ -49,7 +39,7 @@ pub fn track_line(out: &mut [u8], track: Track, sum: usize) -> usize
     ensures { λ e. ⌜ Written (endedLine (trackLine (track .0) sum)) (now (out .entry)) (now (out .exit)) e ⌝ }
 {
     let t = track.0;
-    let a = put_head(out, 0, 1, t);
+    let a = keywords::put_head(out, 0, Vocabulary::Layout, 1, t);
     let b = text::put_spaced(out, a, sum);
     text::put_bytes_at(out, b, b")\n")
 }
@@ -59,7 +49,7 @@ pub fn loose_line(out: &mut [u8], number: usize) -> usize
     requires { ⌜ length (endedLine (looseLine number)) ≤ length (now out) ⌝ }
     ensures { λ e. ⌜ Written (endedLine (looseLine number)) (now (out .entry)) (now (out .exit)) e ⌝ }
 {
-    let a = put_head(out, 0, 3, number);
+    let a = keywords::put_head(out, 0, Vocabulary::Layout, 3, number);
     text::put_bytes_at(out, a, b")\n")
 }
 

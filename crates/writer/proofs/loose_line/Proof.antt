@@ -1,7 +1,7 @@
 -- `writer::loose_line` meets its contract: two writes in a row. Assumes nothing.
 use native.Mathlib.Omega.{arith}
-use Rattle.text.proofs.Writing.{lengths, kept-at, chain-at}
-use Rattle.writer.proofs.Lines.{from-start, loose-parts}
+use Rattle.text.proofs.Writing.{lengths, kept-at, chain-at, from-start}
+use Rattle.writer.proofs.Lines.{loose-parts}
 use borrow.Author.Needs.{needs}
 use Rattle.writer.proofs.loose_line.Statement.{statement}
 use Rattle.writer.proofs.loose_line.Tie as tie

@@ -1,7 +1,7 @@
 -- `writer::track_line` meets its contract: three writes in a row. Assumes nothing.
 use native.Mathlib.Omega.{arith}
-use Rattle.text.proofs.Writing.{lengths, kept-at, chain-at}
-use Rattle.writer.proofs.Lines.{from-start, track-parts}
+use Rattle.text.proofs.Writing.{lengths, kept-at, chain-at, from-start}
+use Rattle.writer.proofs.Lines.{track-parts}
 use borrow.Author.Needs.{needs}
 use Rattle.writer.proofs.track_line.Statement.{statement}
 use Rattle.writer.proofs.track_line.Tie as tie

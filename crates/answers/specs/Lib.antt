@@ -1,0 +1,2 @@
+-- The answer of an operation that writes a text.
+pub mod Answers

@@ -1,0 +1,2 @@
+-- Blocks as numbers.
+pub mod Keys

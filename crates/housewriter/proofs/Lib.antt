@@ -1,0 +1,2 @@
+-- Laws of the parts of the fixed text.
+pub mod Parts

@@ -1,0 +1,157 @@
+-- The fixed text of a job is its parts one behind another, and each line is the parts that its writer writes. Assumes nothing.
+use Prim.Native.Nat.{ℕ, _+_, _≤_, _<_}
+use mathlib.Core.Path.{_≡_, refl, sym, ap, ap₂, _∙_}
+use mathlib.Core.List.{List, [], _∷_, _++_, map, append-assoc}
+use native.Mathlib.Numerals.{add-one}
+use lib.ListN.{length, getD}
+use lib.Seq.{slice, slice-cons, slice-empty}
+use Rattle.lists.specs.Lists.{Each}
+use Rattle.text.specs.Digits.{digits}
+use Rattle.keywords.specs.Keywords.{rowsWord, tracksWord, wordOf, headText}
+use Rattle.keywords.specs.declared.Vocabulary.the-variants.{Job}
+use Rattle.board.specs.declared.Board.{Board}
+use Rattle.board.specs.declared.Net.{Net}
+use Rattle.board.specs.declared.Block.{Block}
+use Rattle.board.specs.Job as model
+use Rattle.board.specs.declared.StoredJob.{StoredJob}
+use Rattle.board.specs.Stored.{jobOf, noNet, AcceptedStored}
+use Rattle.house.specs.Blocks.{sortBlocks}
+use Rattle.house.specs.HouseText.{spacedThen, innerLine, netLine, blockLine, houseLines, endedLines, houseText}
+use Rattle.house.proofs.BlockOrder.{sorted-each}
+use Rattle.blocksort.specs.Keys.{SmallBlock, blockKey, keyBlock}
+use Rattle.blocksort.proofs.Sorting.{key-back, small-blocks}
+use Rattle.housewriter.specs.Parts.{ended, firstLine, lastLine, twoText, topText, netsText, blocksText}
+
+-- ---- lines
+
+pub first-parts : ended firstLine ≡ ((40 ∷ []) ++ wordOf Job 0) ++ (10 ∷ [])
+unfolding firstLine wordOf
+first-parts = refl
+
+-- numbers and what is behind them, with a byte more
+spaced-ended : (ns rest : List ℕ) → spacedThen ns rest ++ (10 ∷ []) ≡ spacedThen ns (rest ++ (10 ∷ []))
+unfolding spacedThen
+spaced-ended [] rest = refl
+spaced-ended (n ∷ ns) rest = ap (λ l. 32 ∷ l) (append-assoc (digits n) (spacedThen ns rest) (10 ∷ []) ∙ ap (λ l. digits n ++ l) (spaced-ended ns rest))
+
+-- an inner line: how it begins, and the numbers behind the first
+line-parts : (i n : ℕ) (ns : List ℕ) → ended (innerLine (wordOf Job i) (n ∷ ns)) ≡ headText Job i n ++ spacedThen ns (41 ∷ 10 ∷ [])
+unfolding innerLine headText spacedThen
+line-parts i n ns =
+    let t = spacedThen ns (41 ∷ []) in
+    ap (λ l. 32 ∷ 40 ∷ l)
+    (append-assoc (wordOf Job i) (32 ∷ (digits n ++ t)) (10 ∷ []) ∙
+    ap (λ l. wordOf Job i ++ (32 ∷ l)) (append-assoc (digits n) t (10 ∷ []) ∙ ap (λ l. digits n ++ l) (spaced-ended ns (41 ∷ []))) ∙
+    sym (append-assoc (wordOf Job i) (32 ∷ digits n) (spacedThen ns (41 ∷ 10 ∷ []))))
+
+two-parts : (a b : ℕ) (ns rest : List ℕ) → spacedThen (a ∷ b ∷ ns) rest ≡ twoText a b ++ spacedThen ns rest
+unfolding spacedThen
+two-parts a b ns rest = ap (λ l. 32 ∷ l) (sym (append-assoc (digits a) (32 ∷ digits b) (spacedThen ns rest)))
+
+none-parts : (rest : List ℕ) → spacedThen [] rest ≡ rest
+unfolding spacedThen
+none-parts rest = refl
+
+pub size-parts : (i n : ℕ) → ended (innerLine (wordOf Job i) (n ∷ [])) ≡ headText Job i n ++ (41 ∷ 10 ∷ [])
+size-parts i n = line-parts i n [] ∙ ap (λ l. headText Job i n ++ l) (none-parts (41 ∷ 10 ∷ []))
+
+pub net-parts : (n : Net) → ended (netLine n) ≡
+    headText Job 3 (n .number) ++ (twoText (n .left .0) (n .right .0) ++ (twoText (n .min) (n .max) ++ (41 ∷ 10 ∷ [])))
+unfolding wordOf
+net-parts n =
+    line-parts 3 (n .number) (n .left .0 ∷ n .right .0 ∷ n .min ∷ n .max ∷ []) ∙
+    ap (λ l. headText Job 3 (n .number) ++ l)
+    (two-parts (n .left .0) (n .right .0) (n .min ∷ n .max ∷ []) (41 ∷ 10 ∷ []) ∙
+    ap (λ l. twoText (n .left .0) (n .right .0) ++ l)
+    (two-parts (n .min) (n .max) [] (41 ∷ 10 ∷ []) ∙ ap (λ l. twoText (n .min) (n .max) ++ l) (none-parts (41 ∷ 10 ∷ []))))
+
+pub block-parts : (b : Block) → ended (blockLine b) ≡ headText Job 4 (b .track .0) ++ (twoText (b .first .0) (b .last .0) ++ (41 ∷ 10 ∷ []))
+unfolding wordOf
+block-parts b =
+    line-parts 4 (b .track .0) (b .first .0 ∷ b .last .0 ∷ []) ∙
+    ap (λ l. headText Job 4 (b .track .0) ++ l)
+    (two-parts (b .first .0) (b .last .0) [] (41 ∷ 10 ∷ []) ∙ ap (λ l. twoText (b .first .0) (b .last .0) ++ l) (none-parts (41 ∷ 10 ∷ [])))
+
+-- ---- the whole
+
+pub top-parts : (board : Board) → topText board ≡ ended firstLine ++ (ended (innerLine (wordOf Job 1) (board .rows ∷ [])) ++ ended (innerLine (wordOf Job 2) (board .tracks ∷ [])))
+unfolding topText wordOf
+top-parts board = refl
+
+-- a line more
+one-ended : (l : List ℕ) (ls : List (List ℕ)) → endedLines (l ∷ ls) ≡ ended l ++ endedLines ls
+unfolding endedLines
+one-ended l ls = sym (append-assoc l (10 ∷ []) (endedLines ls))
+
+nets-ended : (ns : List Net) (ls : List (List ℕ)) → endedLines (map netLine ns ++ ls) ≡ netsText ns ++ endedLines ls
+unfolding netsText
+nets-ended [] ls = refl
+nets-ended (n ∷ ns) ls =
+    one-ended (netLine n) (map netLine ns ++ ls) ∙ ap (λ l. ended (netLine n) ++ l) (nets-ended ns ls) ∙ sym (append-assoc (ended (netLine n)) (netsText ns) (endedLines ls))
+
+blocks-ended : (bs : List Block) (ls : List (List ℕ)) → endedLines (map blockLine bs ++ ls) ≡ blocksText bs ++ endedLines ls
+unfolding blocksText
+blocks-ended [] ls = refl
+blocks-ended (b ∷ bs) ls =
+    one-ended (blockLine b) (map blockLine bs ++ ls) ∙ ap (λ l. ended (blockLine b) ++ l) (blocks-ended bs ls) ∙ sym (append-assoc (ended (blockLine b)) (blocksText bs) (endedLines ls))
+
+last-ended : endedLines (lastLine ∷ []) ≡ ended lastLine
+unfolding endedLines
+last-ended = refl
+
+pub house-parts : (job : model.Job) → houseText job ≡
+    topText (job .board) ++ (netsText (job .nets) ++ (blocksText (sortBlocks (job .blocks)) ++ ended lastLine))
+unfolding houseText houseLines topText firstLine
+house-parts job =
+    let ls = lastLine ∷ [] in
+    let bs = map blockLine (sortBlocks (job .blocks)) ++ ls in
+    let ns = map netLine (job .nets) ++ bs in
+    let rows = innerLine rowsWord (job .board .rows ∷ []) in
+    let tracks = innerLine tracksWord (job .board .tracks ∷ []) in
+    let behind = netsText (job .nets) ++ (blocksText (sortBlocks (job .blocks)) ++ ended lastLine) in
+    let tail : endedLines ns ≡ behind =
+    nets-ended (job .nets) bs ∙ ap (λ l. netsText (job .nets) ++ l) (blocks-ended (sortBlocks (job .blocks)) ls ∙ ap (λ l. blocksText (sortBlocks (job .blocks)) ++ l) last-ended) in
+    one-ended firstLine (rows ∷ tracks ∷ ns) ∙
+    ap (λ l. ended firstLine ++ l) (one-ended rows (tracks ∷ ns) ∙ ap (λ l. ended rows ++ l) (one-ended tracks ns ∙ ap (λ l. ended tracks ++ l) tail)) ∙
+    three (ended firstLine) (ended rows) (ended tracks) behind
+  where
+    three : (a b c d : List ℕ) → a ++ (b ++ (c ++ d)) ≡ (a ++ (b ++ c)) ++ d
+    three a b c d = simp append-assoc
+
+-- ---- nets and blocks one by one
+
+-- the nets from place i on, of the first n
+abbrev pub netsOn : List Net → ℕ → ℕ → List ℕ
+netsOn nets n i = netsText (slice i n nets)
+
+pub nets-last : (nets : List Net) (n i : ℕ) → i ≡ n → netsOn nets n i ≡ []
+unfolding netsText
+nets-last nets n i e = rw (e, slice-empty n nets)
+
+pub nets-step : (nets : List Net) (n i : ℕ) → i < n → n ≤ length nets → netsOn nets n i ≡ ended (netLine (getD nets i noNet)) ++ netsOn nets n (i + 1)
+unfolding netsText
+nets-step nets n i h l = ap netsText (slice-cons i n nets noNet h l) ∙ ap (λ k. ended (netLine (getD nets i noNet)) ++ netsOn nets n k) (sym (add-one i))
+
+abbrev pub keysOn : List ℕ → ℕ → ℕ → List ℕ
+keysOn keys n i = blocksText (map keyBlock (slice i n keys))
+
+pub keys-last : (keys : List ℕ) (n i : ℕ) → i ≡ n → keysOn keys n i ≡ []
+unfolding blocksText
+keys-last keys n i e = rw (e, slice-empty n keys)
+
+pub keys-step : (keys : List ℕ) (n i : ℕ) → i < n → n ≤ length keys → keysOn keys n i ≡ ended (blockLine (keyBlock (getD keys i 0))) ++ keysOn keys n (i + 1)
+unfolding blocksText
+keys-step keys n i h l =
+    ap (λ ks. blocksText (map keyBlock ks)) (slice-cons i n keys 0 h l) ∙ ap (λ k. ended (blockLine (keyBlock (getD keys i 0))) ++ keysOn keys n k) (sym (add-one i))
+
+-- the blocks of the keys of blocks
+pub keys-back : (bs : List Block) → Each SmallBlock bs → map keyBlock (map blockKey bs) ≡ bs
+keys-back [] a = refl
+keys-back (b ∷ bs) a = ap₂ _∷_ (key-back b (a .0)) (keys-back bs (a .1))
+
+-- the lines of the blocks of an accepted job, from the sorted keys
+pub sorted-lines : (job : StoredJob) → AcceptedStored job → {ks : List ℕ} → ks ≡ map blockKey (sortBlocks (jobOf job .blocks)) →
+    blocksText (map keyBlock ks) ≡ blocksText (sortBlocks (jobOf job .blocks))
+sorted-lines job a e =
+    let bs = sortBlocks (jobOf job .blocks) in
+    ap blocksText (ap (map keyBlock) e ∙ keys-back bs (sorted-each SmallBlock (jobOf job .blocks) (small-blocks job a)))

@@ -1,0 +1,2 @@
+-- The parts of the fixed text that are written one after another.
+pub mod Parts

@@ -1,5 +1,5 @@
--- The values of route's answer are those of the answer that the definition gives, and what holds of the one holds of the other. Assumes
--- nothing.
+-- The numbers handed out are the values of the answer that the definition gives, and what holds of the text written holds of the bytes
+-- handed out. Assumes nothing.
 use Prim.Native.Nat.{ℕ}
 use mathlib.Core.Path.{_≡_, refl, subst}
 use mathlib.Core.List.{List}
@@ -12,45 +12,49 @@ use Rattle.jobfile.proofs.Refusals.{read-faultless}
 use Rattle.planning.specs.Plan.{planOf}
 use Rattle.sound.specs.Sound.{Sound}
 use Rattle.routing.specs.Promises.{ShortestText, UnbeatenText}
-use Rattle.router.specs.declared.RouteAnswer.{RouteAnswer}
-use Rattle.router.specs.declared.RouteAnswer.the-variants.{Refused, TooSmall, Routed}
-use Rattle.router.specs.Answers.{routeValues, routeAnswer, RightFor, bufferAfter, OfWritten}
+use Rattle.routing.specs.Route.{routeText}
+use Rattle.answers.specs.declared.TextAnswer.{TextAnswer}
+use Rattle.answers.specs.declared.TextAnswer.the-variants.{Refused, TooSmall, Written}
+use Rattle.answers.specs.Answers.{answerValues, textAnswer, RightFor, bufferAfter, OfWritten}
+use Rattle.router.specs.LayoutLength.{LayoutLength}
 use Rattle.router.proofs.Answering.{Promised}
 use Rattle.exports.specs.Exported.{RepliesWith}
 
-module _ (text : List ℕ) (room : ℕ) (P : Job → List ℕ → Type 0) (after : List ℕ) (n b : ℕ) where
+module _ (Length : Job → ℕ → Type 0) (file : List ℕ) (room : ℕ) (after : List ℕ) (a : TextAnswer) (right : RightFor Length file room a) (n l b : ℕ)
+    (e : n ≡ answerValues a .number) (f : l ≡ answerValues a .line) (g : b ≡ answerValues a .bytes) where
+  handed-by : (P : Job → List ℕ → Type 0) (y : Read) → readJob file ≡ y → (x : TextAnswer) → RightFor Length file room x → OfWritten P y x after →
+      n ≡ answerValues x .number → b ≡ answerValues x .bytes → n ≡ 0 → OfAccepted (λ j. P j (take b after)) y
+  handed-by P (accepted job) q (Written m) r w h k z = rw k w
+  handed-by P (accepted job) q (TooSmall m) r w h k z = absurd (omega (arith, h, z))
+  handed-by P (accepted job) q (Refused o) r w h k z = absurd (read-faultless file job q o (r .fault))
+  handed-by P (refused o) q x r w h k z = tt
+
   -- what holds of the text written holds of the bytes handed out
-  handed-out : (y : Read) → readJob text ≡ y → (a : RouteAnswer) → RightFor text room a → OfWritten P y a after →
-      n ≡ routeValues a .number → b ≡ routeValues a .bytes → n ≡ 0 → OfAccepted (λ j. P j (take b after)) y
-  handed-out (accepted job) e (Routed m) r w f g z = rw g w
-  handed-out (accepted job) e (TooSmall m) r w f g z = absurd (omega (arith, f, z))
-  handed-out (accepted job) e (Refused o) r w f g z = absurd (read-faultless text job e o (r .fault))
-  handed-out (refused o) e a r w f g z = tt
+  pub handed : (P : Job → List ℕ → Type 0) → OfWritten P (readJob file) a after → n ≡ 0 → OfAccepted (λ j. P j (take b after)) (readJob file)
+  handed P w = handed-by P (readJob file) refl a right w e g
 
-module _ (job before : List ℕ) (a : RouteAnswer) (after : List ℕ) (p : Promised job before a after) (n l b : ℕ)
-    (e : n ≡ routeValues a .number) (f : l ≡ routeValues a .line) (g : b ≡ routeValues a .bytes) where
-  -- the numbers handed out are the values of the answer
-  told : RepliesWith a n l b
-  told = record { number-is = e; line-is = f; bytes-is = g }
+  -- the numbers handed out are the values of the answer, which is the one that the definition gives, and right
+  pub replied : (x : TextAnswer) → a ≡ x → RepliesWith x n l b × ((y : TextAnswer) × (RepliesWith y n l b × RightFor Length file room y))
+  replied x q =
+      let told : RepliesWith a n l b = record { number-is = e; line-is = f; bytes-is = g } in
+      (subst (λ (y : TextAnswer). RepliesWith y n l b) q told, (a, (told, right)))
 
-  handed : (P : Job → List ℕ → Type 0) → OfWritten P (readJob job) a after → n ≡ 0 → OfAccepted (λ j. P j (take b after)) (readJob job)
-  handed P w = handed-out job (length before) P after n b (readJob job) refl a (p .1 .1 .0) w e g
-
-  pub reply-given :
-      RepliesWith (routeAnswer (readJob job) (length before)) n l b ×
-      (((y : RouteAnswer) × (RepliesWith y n l b × RightFor job (length before) y)) ×
-      ((after ≡ bufferAfter (readJob job) before) ×
-      ((n ≡ 0 → OfAccepted (λ j. ShortestText j (planOf j) (take b after)) (readJob job)) ×
-      ((n ≡ 0 → OfAccepted (λ j. Sound j (take b after)) (readJob job)) ×
-      (n ≡ 0 → OfAccepted (λ j. UnbeatenText j (take b after)) (readJob job))))))
-  reply-given =
-      let w = p .1 .1 .1 in (
-        subst (λ (y : RouteAnswer). RepliesWith y n l b) (p .0) told,
-        (
-          (a, (told, p .1 .1 .0)),
-          (
-            w .0,
-            (handed (λ j text. ShortestText j (planOf j) text) (w .1 .0), (handed (λ j text. Sound j text) (w .1 .1 .0), handed (λ j text. UnbeatenText j text) (w .1 .1 .1))),
-          ),
-        ),
-      )
+-- of route
+pub reply-given : (file before : List ℕ) (a : TextAnswer) (after : List ℕ) → Promised file before a after → (n l b : ℕ) →
+    n ≡ answerValues a .number → l ≡ answerValues a .line → b ≡ answerValues a .bytes →
+    RepliesWith (textAnswer routeText (readJob file) (length before)) n l b ×
+    (((y : TextAnswer) × (RepliesWith y n l b × RightFor LayoutLength file (length before) y)) ×
+    ((after ≡ bufferAfter routeText (readJob file) before) ×
+    ((n ≡ 0 → OfAccepted (λ j. ShortestText j (planOf j) (take b after)) (readJob file)) ×
+    ((n ≡ 0 → OfAccepted (λ j. Sound j (take b after)) (readJob file)) ×
+    (n ≡ 0 → OfAccepted (λ j. UnbeatenText j (take b after)) (readJob file))))))
+reply-given file before a after p n l b e f g =
+    let w = p .1 .1 .1 in
+    let told = replied LayoutLength file (length before) after a (p .1 .1 .0) n l b e f g _ (p .0) in
+    let out = handed LayoutLength file (length before) after a (p .1 .1 .0) n l b e f g in (
+      told .0,
+      (
+        told .1,
+        (w .0, (out (λ j text. ShortestText j (planOf j) text) (w .1 .0), (out (λ j text. Sound j text) (w .1 .1 .0), out (λ j text. UnbeatenText j text) (w .1 .1 .1)))),
+      ),
+    )

@@ -1,53 +1,54 @@
--- What is promised of the numbers handed out, taken out: what they say of the faults of the job file, of the layout written and of the
+-- What is promised of the numbers handed out, taken out: what they say of the faults of the job file, of the text written and of the
 -- layout checked. Assumes nothing.
 use Prim.Native.Nat.{ℕ, _≤_, _<_}
 use mathlib.Core.Path.{_≡_, refl}
 use mathlib.Core.List.{List}
 use native.Mathlib.Omega.{arith}
 use lib.ListN.{length}
+use Rattle.board.specs.Job.{Job}
 use Rattle.sound.specs.Sound.{Sound}
 use Rattle.jobfile.specs.declared.Outcome.{Outcome}
 use Rattle.jobfile.specs.Answers.{numberOf, lineOf}
 use Rattle.jobfile.specs.Faults.{Fault, FirstFault}
 use Rattle.jobfile.proofs.Refusals.{fault-from}
 use Rattle.jobfile.proofs.Outcomes.{number-below}
-use Rattle.router.specs.declared.RouteAnswer.{RouteAnswer}
-use Rattle.router.specs.declared.RouteAnswer.the-variants as Of
-use Rattle.router.specs.Answers.{RightFor}
+use Rattle.answers.specs.declared.TextAnswer.{TextAnswer}
+use Rattle.answers.specs.declared.TextAnswer.the-variants as Of
+use Rattle.answers.specs.Answers.{RightFor}
 use Rattle.checker.specs.declared.CheckAnswer.{CheckAnswer}
 use Rattle.checker.specs.declared.CheckAnswer.the-variants as Is
 use Rattle.checker.specs.RightVerdict.{RightVerdict, FirstBreach, jobHeld}
 use Rattle.exports.specs.Exported.{oneIf, RepliesWith, CheckRepliesWith}
 
-module _ (text : List ℕ) (room n l b : ℕ) where
-  zero-by : (a : RouteAnswer) → RepliesWith a n l b → RightFor text room a → n ≡ 0 →
+module _ (Length : Job → ℕ → Type 0) (text : List ℕ) (room n l b : ℕ) where
+  zero-by : (a : TextAnswer) → RepliesWith a n l b → RightFor Length text room a → n ≡ 0 →
       ((o : Outcome) → Fault text o → ⊥) × (b ≤ room) × (b ≤ 64000)
   zero-by (Of.Refused o) s r z = absurd (omega (arith, s .number-is, z, fault-from text o (r .fault)))
   zero-by (Of.TooSmall m) s r z = absurd (omega (arith, s .number-is, z))
-  zero-by (Of.Routed m) s r z = (r .0, rw (s .bytes-is) (r .1), rw (s .bytes-is) (r .2))
+  zero-by (Of.Written m) s r z = (r .0, rw (s .bytes-is) (r .1), rw (s .bytes-is) (r .2))
 
   -- number 0 is for a text without a fault, and the length is at most that of the buffer, and at most 64,000
-  pub zero-faultless : ((a : RouteAnswer) × (RepliesWith a n l b × RightFor text room a)) → n ≡ 0 →
+  pub zero-faultless : ((a : TextAnswer) × (RepliesWith a n l b × RightFor Length text room a)) → n ≡ 0 →
       ((o : Outcome) → Fault text o → ⊥) × (b ≤ room) × (b ≤ 64000)
   zero-faultless r = zero-by (r .0) (r .1 .0) (r .1 .1)
 
-  ten-by : (a : RouteAnswer) → RepliesWith a n l b → RightFor text room a → n ≡ 10 → room < b
+  ten-by : (a : TextAnswer) → RepliesWith a n l b → RightFor Length text room a → n ≡ 10 → room < b
   ten-by (Of.Refused o) s r z = absurd (omega (arith, s .number-is, z, number-below o))
   ten-by (Of.TooSmall m) s r z = rw (s .bytes-is) (r .1)
-  ten-by (Of.Routed m) s r z = absurd (omega (arith, s .number-is, z))
+  ten-by (Of.Written m) s r z = absurd (omega (arith, s .number-is, z))
 
   -- number 10 is for a buffer that has fewer bytes than are told
-  pub ten-small : ((a : RouteAnswer) × (RepliesWith a n l b × RightFor text room a)) → n ≡ 10 → room < b
+  pub ten-small : ((a : TextAnswer) × (RepliesWith a n l b × RightFor Length text room a)) → n ≡ 10 → room < b
   ten-small r = ten-by (r .0) (r .1 .0) (r .1 .1)
 
-  named-by : (a : RouteAnswer) → RepliesWith a n l b → RightFor text room a → (o : Outcome) → Fault text o →
+  named-by : (a : TextAnswer) → RepliesWith a n l b → RightFor Length text room a → (o : Outcome) → Fault text o →
       (p : Outcome) × (FirstFault text p × ((n ≡ numberOf p) × (l ≡ lineOf p)))
   named-by (Of.Refused p) s r o f = (p, (r, (s .number-is, s .line-is)))
   named-by (Of.TooSmall m) s r o f = absurd (r .0 o f)
-  named-by (Of.Routed m) s r o f = absurd (r .0 o f)
+  named-by (Of.Written m) s r o f = absurd (r .0 o f)
 
   -- of a text with a fault the number and the line are those of the first one
-  pub fault-named : ((a : RouteAnswer) × (RepliesWith a n l b × RightFor text room a)) → (o : Outcome) → Fault text o →
+  pub fault-named : ((a : TextAnswer) × (RepliesWith a n l b × RightFor Length text room a)) → (o : Outcome) → Fault text o →
       (p : Outcome) × (FirstFault text p × ((n ≡ numberOf p) × (l ≡ lineOf p)))
   fault-named r = named-by (r .0) (r .1 .0) (r .1 .1)
 

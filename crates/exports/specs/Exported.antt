@@ -7,8 +7,8 @@ use Rattle.jobfile.specs.Read.{Read, accepted, refused}
 use Rattle.jobfile.specs.Answers.{numberOf}
 use Rattle.planning.specs.Plan.{planOf}
 use Rattle.planning.specs.Loose.{sumOfTracks}
-use Rattle.router.specs.declared.RouteAnswer.{RouteAnswer}
-use Rattle.router.specs.Answers.{routeValues}
+use Rattle.answers.specs.declared.TextAnswer.{TextAnswer}
+use Rattle.answers.specs.Answers.{answerValues}
 use Rattle.checker.specs.declared.CheckAnswer.{CheckAnswer}
 use Rattle.checker.specs.Answers.{checkValues}
 
@@ -27,11 +27,11 @@ unfoldable pub planSum : Read → ℕ
 planSum (accepted job) = sumOfTracks (planOf job)
 planSum (refused o) = 0
 
--- an answer of route has this number, line and bytes in document 01's numbers
-pub record RepliesWith (a : RouteAnswer) (number line bytes : ℕ) : Type 0 where
-  pub number-is : number ≡ routeValues a .number
-  pub line-is : line ≡ routeValues a .line
-  pub bytes-is : bytes ≡ routeValues a .bytes
+-- an answer of an operation that writes a text has this number, line and bytes in document 01's numbers
+pub record RepliesWith (a : TextAnswer) (number line bytes : ℕ) : Type 0 where
+  pub number-is : number ≡ answerValues a .number
+  pub line-is : line ≡ answerValues a .line
+  pub bytes-is : bytes ≡ answerValues a .bytes
 
 -- a yes or no as a number
 unfoldable pub oneIf : Bool → ℕ

@@ -8,8 +8,10 @@ ghost use Rattle.jobfile.specs.OfAccepted.{OfAccepted};
 ghost use Rattle.planning.specs.Plan.{planOf};
 ghost use Rattle.sound.specs.Sound.{Sound};
 ghost use Rattle.routing.specs.Promises.{ShortestText, UnbeatenText};
-ghost use Rattle.router.specs.declared.RouteAnswer.{RouteAnswer};
-ghost use Rattle.router.specs.Answers.{routeAnswer, RightFor, bufferAfter};
+ghost use Rattle.routing.specs.Route.{routeText};
+ghost use Rattle.router.specs.LayoutLength.{LayoutLength};
+ghost use Rattle.answers.specs.declared.TextAnswer.{TextAnswer};
+ghost use Rattle.answers.specs.Answers.{textAnswer, RightFor, bufferAfter};
 ghost use Rattle.checker.specs.declared.CheckAnswer.{CheckAnswer};
 ghost use Rattle.checker.specs.Answers.{checkAnswer};
 ghost use Rattle.checker.specs.RightVerdict.{RightVerdict};
@@ -25,17 +27,17 @@ pub extern "C" fn hankuribo_route(
     line: &mut usize,
     bytes: &mut usize,
 ) -> usize
-    ensures answer { λ r. ⌜ RepliesWith (routeAnswer (readJob (now (job .entry))) (length (now (out .entry)))) r (now (line .exit)) (now (bytes .exit)) ⌝ }
-    ensures right { λ r. ⌜ ((a : RouteAnswer) × (RepliesWith a r (now (line .exit)) (now (bytes .exit)) × RightFor (now (job .entry)) (length (now (out .entry))) a)) ⌝ }
-    ensures buffer { λ _. ⌜ now (out .exit) ≡ bufferAfter (readJob (now (job .entry))) (now (out .entry)) ⌝ }
+    ensures answer { λ r. ⌜ RepliesWith (textAnswer routeText (readJob (now (job .entry))) (length (now (out .entry)))) r (now (line .exit)) (now (bytes .exit)) ⌝ }
+    ensures right { λ r. ⌜ ((a : TextAnswer) × (RepliesWith a r (now (line .exit)) (now (bytes .exit)) × RightFor LayoutLength (now (job .entry)) (length (now (out .entry))) a)) ⌝ }
+    ensures buffer { λ _. ⌜ now (out .exit) ≡ bufferAfter routeText (readJob (now (job .entry))) (now (out .entry)) ⌝ }
     ensures shortest { λ r. ⌜ (r ≡ 0 → OfAccepted (λ j. ShortestText j (planOf j) (take (now (bytes .exit)) (now (out .exit)))) (readJob (now (job .entry)))) ⌝ }
     ensures sound { λ r. ⌜ (r ≡ 0 → OfAccepted (λ j. Sound j (take (now (bytes .exit)) (now (out .exit)))) (readJob (now (job .entry)))) ⌝ }
     ensures unbeaten { λ r. ⌜ (r ≡ 0 → OfAccepted (λ j. UnbeatenText j (take (now (bytes .exit)) (now (out .exit)))) (readJob (now (job .entry)))) ⌝ }
 {
     let answer = router::route(job, out);
-    *line = router::answer_line(answer);
-    *bytes = router::answer_bytes(answer);
-    router::answer_number(answer)
+    *line = answers::answer_line(answer);
+    *bytes = answers::answer_bytes(answer);
+    answers::answer_number(answer)
 }
 
 // A yes or no as a number.

@@ -1,86 +1,82 @@
--- What stands in the buffer after route is what the program prints, or the line of the refusal fits there. Assumes nothing.
+-- What stands in the buffer after an operation that writes a text is what the program prints, or the line of the refusal fits there. Assumes
+-- nothing.
 use Prim.Native.Nat.{ℕ, _≤_}
-use mathlib.Core.Path.{_≡_, refl, sym, ap, ap₂, _∙_}
+use mathlib.Core.Path.{_≡_, refl, sym, _∙_}
 use mathlib.Core.List.{List}
-use native.Mathlib.Omega.{arith}
 use mathlib.Core.Bool.{true}
+use native.Mathlib.Omega.{arith}
 use lib.Dec.{leb}
-use lib.ListN.{length, replicate, take}
+use lib.ListN.{length, take}
 use borrow.Author.Tests.{le-leb}
 use Rattle.board.specs.Job.{Job}
+use Rattle.board.specs.Accepted.{AcceptedJob}
 use Rattle.text.specs.Written.{Written, over}
 use Rattle.text.proofs.Writing.{start-written}
 use Rattle.jobfile.specs.Read.{Read, accepted, refused, readJob}
 use Rattle.jobfile.specs.OfAccepted.{OfAccepted}
 use Rattle.jobfile.proofs.Accepts.{read-accepted}
 use Rattle.jobfile.proofs.Refusals.{read-refused, fault-from}
-use Rattle.planning.specs.Plan.{planOf}
-use Rattle.sound.specs.Sound.{Sound}
 use Rattle.reader.specs.Reports.{refusedText}
 use Rattle.reader.proofs.Reports.{refused-short}
-use Rattle.routing.specs.Route.{routeText}
-use Rattle.routing.specs.Promises.{ShortestText, UnbeatenText}
-use Rattle.routing.proofs.RouteUnbeaten.{route-length, route-demanded}
-use Rattle.router.specs.declared.RouteAnswer.{RouteAnswer}
-use Rattle.router.specs.Answers.{RouteValues, routeValues, routeAnswer, bufferAfter}
-use Rattle.printing.specs.Printed.{printedText}
+use Rattle.answers.specs.declared.TextAnswer.{TextAnswer}
+use Rattle.answers.specs.declared.TextAnswer.the-variants as Is
+use Rattle.answers.specs.Answers.{answerValues, answerFor, bufferFor, textAnswer, bufferAfter}
+use Rattle.printing.specs.Printed.{printedText, RefusalFits, Reported}
 
--- all that is promised of what is printed: the bytes t, of which the first r are printed
-abbrev pub Promised : List ℕ → List ℕ → ℕ → Type 0
-Promised text t r =
-    Written (printedText (readJob text)) (replicate 64000 0) t r ×
-    (OfAccepted (λ j. ShortestText j (planOf j) (take r t)) (readJob text) ×
-    (OfAccepted (λ j. Sound j (take r t)) (readJob text) ×
-    OfAccepted (λ j. UnbeatenText j (take r t)) (readJob text)))
+-- ---- the buffer becomes what is printed
 
-module _ (before : List ℕ) (room : length before ≡ 64000) where
-  -- every layout fits
-  layout-fits : (text : List ℕ) (job : Job) → readJob text ≡ accepted job → leb (length (routeText job)) (length before) ≡ true
-  layout-fits text job e = le-leb (length (routeText job)) (length before) (omega (arith, route-length job (read-accepted text job e)))
+module _ (a : TextAnswer) {n : ℕ} (e : n ≡ answerValues a .number) where
+  -- no number: it stays as it is
+  pub text-reported : (before : List ℕ) {r : ℕ} → n ≡ 0 → r ≡ answerValues a .bytes → Reported a before before r
+  text-reported before z g = record { as-written = λ q. (g, refl); as-refused = λ q. absurd (q (sym e ∙ z)) }
 
-  -- what route answers, by what the text is read as
-  abbrev values : Read → RouteValues
-  values y = routeValues (routeAnswer y (length before))
+  module _ (z : n ≡ 0 → ⊥) {l : ℕ} (f : l ≡ answerValues a .line) where
+    -- a number: its line fits, and is written
+    pub refusal-room : (out : List ℕ) → RefusalFits a out → length (refusedText n l) ≤ length out
+    refusal-room out h = rw (e, f) (h (λ q. z (e ∙ q)))
 
-  -- no number: the layout stands in the buffer
-  layout-from : (text : List ℕ) (y : Read) → readJob text ≡ y → values y .number ≡ 0 → Written (printedText y) before (bufferAfter y before) (values y .bytes)
-  unfolding routeAnswer bufferAfter printedText
-  layout-from text (accepted job) e z = rw (layout-fits text job e) (record { used = refl; bytes = refl })
-  layout-from text (refused o) e z = absurd (omega (arith, z, fault-from text o (read-refused text o e .fault)))
+    pub refusal-reported : {before after : List ℕ} {r : ℕ} → Written (refusedText n l) before after r → Reported a before after r
+    refusal-reported w = record { as-written = λ q. absurd (z (e ∙ q)); as-refused = λ q. rw (e, f) at w }
 
-  -- a number: the text is refused, its line fits, and the buffer is as it was
-  refused-from : (text : List ℕ) (y : Read) → readJob text ≡ y → (values y .number ≡ 0 → ⊥) →
-      (length (refusedText (values y .number) (values y .line)) ≤ 64000) × ((bufferAfter y before ≡ before) × (refusedText (values y .number) (values y .line) ≡ printedText y))
-  unfolding routeAnswer bufferAfter printedText
-  refused-from text (accepted job) e z = absurd (z (rw (layout-fits text job e)))
-  refused-from text (refused o) e z = (omega (arith, refused-short text o e), (refl, refl))
+-- ---- which is what the program prints
 
-  -- what the code holds: the answer of route, the buffer behind it, and the answer's number
-  module _ (text : List ℕ) (answer : RouteAnswer) (after : List ℕ) (n : ℕ) (e : answer ≡ routeAnswer (readJob text) (length before))
-      (f : after ≡ bufferAfter (readJob text) before) (g : n ≡ routeValues answer .number) where
-    number-is : n ≡ values (readJob text) .number
-    number-is = g ∙ ap (λ (a : RouteAnswer). routeValues a .number) e
+module _ (text : Job → List ℕ) (short : (job : Job) → AcceptedJob job → length (text job) ≤ 64000) (file before : List ℕ) (room : length before ≡ 64000) where
+  -- every text fits
+  text-fits : (job : Job) → readJob file ≡ accepted job → leb (length (text job)) (length before) ≡ true
+  text-fits job e = le-leb (length (text job)) (length before) (omega (arith, short job (read-accepted file job e)))
 
-    pub layout-printed : n ≡ 0 → (k : ℕ) → k ≡ routeValues answer .bytes → Written (printedText (readJob text)) before after k
-    layout-printed z k h = rw (h, e, f) (layout-from text (readJob text) refl (sym number-is ∙ z))
+  -- the line of a refusal has room, by what the file is read as
+  fits-by : (y : Read) → readJob file ≡ y → RefusalFits (textAnswer text y (length before)) (bufferAfter text y before)
+  unfolding textAnswer answerFor bufferAfter
+  fits-by (accepted job) e z = absurd (z (rw (text-fits job e)))
+  fits-by (refused o) e z = omega (arith, refused-short file o e)
 
-    module _ (z : n ≡ 0 → ⊥) (l : ℕ) (h : l ≡ routeValues answer .line) where
-      pub refusal-room : length (refusedText n l) ≤ 64000
-      refusal-room = rw (number-is, h, e) (refused-from text (readJob text) refl (λ q. z (number-is ∙ q)) .0)
+  -- what the buffer becomes is what is printed
+  printed-by : (y : Read) → readJob file ≡ y → {last : List ℕ} {r : ℕ} → Reported (textAnswer text y (length before)) (bufferAfter text y before) last r →
+      Written (printedText text y) before last r
+  unfolding textAnswer answerFor bufferAfter bufferFor printedText
+  printed-by (accepted job) e {last} {r} w =
+      let h : Reported (Is.Written (length (text job))) (over (text job) before) last r = rw (text-fits job e) at w in
+      record { used = h .as-written refl .0; bytes = h .as-written refl .1 }
+  printed-by (refused o) e w = w .as-refused (λ z. omega (arith, z, fault-from file o (read-refused file o e .fault)))
 
-      pub refusal-printed : {last : List ℕ} {r : ℕ} → Written (refusedText n l) after last r → Written (printedText (readJob text)) before last r
-      refusal-printed w =
-          let x = refused-from text (readJob text) refl (λ q. z (number-is ∙ q)) in
-          let t : refusedText n l ≡ printedText (readJob text) = (rw (number-is, h, e)) ∙ x .1 .1 in
-          record { used = w .used ∙ ap length t; bytes = w .bytes ∙ ap₂ over t (f ∙ x .1 .0) }
+  -- what the code holds: the answer and the buffer behind it
+  module _ {a : TextAnswer} {after : List ℕ} (e : a ≡ textAnswer text (readJob file) (length before)) (f : after ≡ bufferAfter text (readJob file) before) where
+    pub refusal-fits : RefusalFits a after
+    refusal-fits = rw (e, f) (fits-by (readJob file) refl)
 
--- demands 2 and 3 on what is printed, by what the text is read as
-demanded : (text : List ℕ) (y : Read) → readJob text ≡ y → (bytes : List ℕ) → bytes ≡ printedText y →
-    OfAccepted (λ j. ShortestText j (planOf j) bytes) y × (OfAccepted (λ j. Sound j bytes) y × OfAccepted (λ j. UnbeatenText j bytes) y)
-unfolding printedText
-demanded text (accepted job) e bytes w = route-demanded job (read-accepted text job e) bytes w
-demanded text (refused o) e bytes w = (tt, (tt, tt))
+    pub report-printed : {last : List ℕ} {r : ℕ} → Reported a after last r → Written (printedText text (readJob file)) before last r
+    report-printed {last} {r} w =
+        let h : Reported (textAnswer text (readJob file) (length before)) (bufferAfter text (readJob file) before) last r = rw (e, f) at w in
+        printed-by (readJob file) refl h
 
--- what is printed keeps all that is promised of it
-pub promised : (text : List ℕ) {t : List ℕ} {r : ℕ} → Written (printedText (readJob text)) (replicate 64000 0) t r → Promised text t r
-promised text w = (w, demanded text (readJob text) refl _ (start-written w))
+-- what holds of the text of every accepted job holds of what is printed, where the file is accepted
+module _ (text : Job → List ℕ) (file before : List ℕ) {last : List ℕ} {r : ℕ} (w : Written (printedText text (readJob file)) before last r)
+    (P : Job → List ℕ → Type 0) (p : (job : Job) → AcceptedJob job → P job (text job)) where
+  held-by : (y : Read) → readJob file ≡ y → (bytes : List ℕ) → bytes ≡ printedText text y → OfAccepted (λ j. P j bytes) y
+  unfolding printedText
+  held-by (accepted job) e bytes q = rw q (p job (read-accepted file job e))
+  held-by (refused o) e bytes q = tt
+
+  pub held-printed : OfAccepted (λ j. P j (take r last)) (readJob file)
+  held-printed = held-by (readJob file) refl (take r last) (start-written w)

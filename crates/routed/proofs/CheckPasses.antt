@@ -13,8 +13,8 @@ use Rattle.jobfile.specs.Read.{Read, accepted, refused, readJob}
 use Rattle.jobfile.proofs.Accepts.{read-accepted}
 use Rattle.routing.specs.Route.{routeText}
 use Rattle.routing.proofs.RouteUnbeaten.{route-length}
-use Rattle.router.specs.declared.RouteAnswer.the-variants.{TooSmall, Routed}
-use Rattle.router.specs.Answers.{routeAnswer, bufferAfter}
+use Rattle.answers.specs.declared.TextAnswer.the-variants.{TooSmall, Written}
+use Rattle.answers.specs.Answers.{answerFor, bufferFor, textAnswer, bufferAfter}
 use Rattle.checker.specs.declared.CheckAnswer.the-variants.{Passes}
 use Rattle.checker.specs.Answers.{verdictAnswer, checkAnswer}
 use Rattle.routed.proofs.RouteJudged.{route-judged}
@@ -28,18 +28,18 @@ module _ (text : List ℕ) where
       rw (e, le-leb (length (routeText job)) 64000 (route-length job a), route-judged job a)
 
   module _ (before : List ℕ) (n : ℕ) where
-    written-passes : (y : Read) → readJob text ≡ y → routeAnswer y (length before) ≡ Routed n → checkAnswer y (take n (bufferAfter y before)) ≡ Passes
-    unfolding routeAnswer bufferAfter
+    written-passes : (y : Read) → readJob text ≡ y → textAnswer routeText y (length before) ≡ Written n → checkAnswer y (take n (bufferAfter routeText y before)) ≡ Passes
+    unfolding textAnswer bufferAfter answerFor bufferFor
     written-passes (refused o) e r = cc
     written-passes (accepted job) e r =
         let written = routeText job in
         by-test (leb (length written) (length before))
         (λ t.
-        let q : Routed (length written) ≡ Routed n = rw t at r in
+        let q : Written (length written) ≡ Written n = rw t at r in
         let i : length written ≡ n = cc in
         rw (t, ← i, take-append-seam written (drop (length written) before)) (rw e at (check-passes-text job e)))
-        (λ t. let q : TooSmall (length written) ≡ Routed n = rw t at r in cc)
+        (λ t. let q : TooSmall (length written) ≡ Written n = rw t at r in cc)
 
     -- where route answers with a length, the check passes that many bytes of the buffer afterwards
-    pub check-passes-route : routeAnswer (readJob text) (length before) ≡ Routed n → checkAnswer (readJob text) (take n (bufferAfter (readJob text) before)) ≡ Passes
+    pub check-passes-route : textAnswer routeText (readJob text) (length before) ≡ Written n → checkAnswer (readJob text) (take n (bufferAfter routeText (readJob text) before)) ≡ Passes
     check-passes-route r = written-passes (readJob text) refl r

@@ -7,6 +7,7 @@ use Rattle.board.specs.Job.{Job}
 use Rattle.text.specs.Written.{over}
 use Rattle.jobfile.specs.Read.{readJob, accepted}
 use Rattle.jobfile.specs.OfAccepted.{OfAccepted}
+use Rattle.routing.specs.Route.{routeText}
 use Rattle.printing.specs.Printed.{printedText}
 use Rattle.files.specs.FileTexts.{textOf}
 use Rattle.text.proofs.Writing.{start-written}
@@ -15,11 +16,11 @@ use Rattle.routeinput.specs.InputPrinted.{InputPrinted, OfInput}
 
 module _ (r : RoutedInput) (h : InputPrinted r) where
   -- the bytes that are printed are the layout or the refusal of the job's text
-  pub printed-is : take (r .printed .used) (r .printed .bytes) ≡ printedText (readJob (textOf (r .job)))
+  pub printed-is : take (r .printed .used) (r .printed .bytes) ≡ printedText routeText (readJob (textOf (r .job)))
   printed-is = start-written h
 
   -- every byte of the buffer: what is printed, and behind it 0
-  pub bytes-are : r .printed .bytes ≡ over (printedText (readJob (textOf (r .job)))) (replicate 64000 0)
+  pub bytes-are : r .printed .bytes ≡ over (printedText routeText (readJob (textOf (r .job)))) (replicate 64000 0)
   bytes-are = h .bytes
 
 -- what is promised of the layout is asked of the bytes that are printed, where the text that was read is accepted

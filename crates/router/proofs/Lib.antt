@@ -1,4 +1,3 @@
 -- Laws of route's answer.
 pub mod Answering
-pub mod TakenOut
 pub mod NeededLength

@@ -9,18 +9,19 @@ use Rattle.jobfile.proofs.Refusals.{faultless-accepted}
 use Rattle.jobfile.proofs.Accepts.{read-accepted}
 use Rattle.routing.specs.Route.{routeText}
 use Rattle.routing.proofs.OnlyText.{only-text}
-use Rattle.router.specs.declared.RouteAnswer.the-variants.{TooSmall}
-use Rattle.router.specs.Answers.{LayoutLength, RightFor}
-use Rattle.router.proofs.TakenOut.{too-small-is}
+use Rattle.answers.specs.declared.TextAnswer.the-variants.{TooSmall}
+use Rattle.answers.specs.Answers.{RightFor}
+use Rattle.answers.proofs.TakenOut.{too-small-is}
+use Rattle.router.specs.LayoutLength.{LayoutLength}
 
 module _ (text : List ℕ) (room : ℕ) where
   -- the job that the lines of the text hold
   abbrev held : Job
   held = jobIn (formsOf text)
 
-  pub needed-is : (n : ℕ) → RightFor text room (TooSmall n) → n ≡ length (routeText held)
+  pub needed-is : (n : ℕ) → RightFor LayoutLength text room (TooSmall n) → n ≡ length (routeText held)
   needed-is n h =
-      let s = too-small-is text room n h in
+      let s = too-small-is LayoutLength text room n h in
       let e = faultless-accepted text (s .0) in
       let w : LayoutLength held n = rw e at (s .3) in
       sym (w .1 .1 .1) ∙ ap length (only-text held (read-accepted text held e) (w .0) (w .1 .1 .0) (w .1 .0))

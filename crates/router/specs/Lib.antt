@@ -1,2 +1,2 @@
--- What route answers and leaves in the buffer.
-pub mod Answers
+-- What is promised of route's answer beyond what holds of every operation that writes a text.
+pub mod LayoutLength

@@ -9,7 +9,9 @@ use Rattle.board.specs.Stored.{jobOf, AcceptedStored}
 use Rattle.jobfile.specs.Read.{accepted, readJob}
 use Rattle.jobfile.proofs.Returned.{given-stored, given-read, given-refused}
 use Rattle.text.proofs.Writing.{written-within}
-use Rattle.router.proofs.Answering.{refused-promised, small-promised, routed-promised, plan-can, plan-short, drawn-length, copied}
+use Rattle.routing.specs.Route.{routeText}
+use Rattle.answers.proofs.Answering.{refused-given, accepted-given}
+use Rattle.router.proofs.Answering.{promised, plan-can, plan-short, drawn-text}
 use Rattle.router.proofs.route.Statement.{statement}
 use Rattle.router.proofs.route.Tie as tie
 
@@ -22,7 +24,8 @@ number-of-requires c κs = search needs
 returns : tie.Need-returns
 returns c =
     let n = c .before in
-    refused-promised _ _ (now (n .before .before .before .before .args .out)) (given-refused _ _ _ (n .before .read .ensures .0) (n .number-of .ensures) (c .if1 .taken))
+    let s = n .before .before .before .before in
+    promised _ (now (s .args .out)) (refused-given routeText (now (s .args .job)) (now (s .args .out)) _ (given-refused _ _ _ (n .before .read .ensures .0) (n .number-of .ensures) (c .if1 .taken)))
 
 -- behind the test of the number: the job by value is an accepted one, and the text is read as it
 stored-at : (c : tie.After-stored) → AcceptedStored (c .before .before .before .read .result .job)
@@ -44,42 +47,27 @@ draw-requires c κs =
     let a = stored-at (p .before) in
     (a, (plan-can _ a _ (p .plan-job .ensures .0), omega (arith, plan-short _ a _ (p .plan-job .ensures .0))))
 
-returns-2 : tie.Need-returns-2
-returns-2 c =
-    let d = c .before .before in
-    let p = d .before .before in
-    let a = stored-at (p .before) in
-    small-promised _ _ (read-at (p .before)) (a .accepted) (now (p .before .before .before .before .before .before .before .args .out)) _
-    (drawn-length _ a _ (p .plan-job .ensures .0) (d .draw .ensures)) (c .if2 .taken)
-
 array-share-prefix-drawn : tie.Need-array-share-prefix-drawn
-array-share-prefix-drawn c = written-within (c .before .before .before .draw .ensures)
+array-share-prefix-drawn c = written-within (c .before .draw .ensures)
 
--- as many bytes are copied as were drawn
-copied-bytes : (c : tie.After-drawn3) →
-    length (take (c .before .before .before .before .draw .result) (c .before .before .before .before .draw .last .1 .1 .0)) ≡ c .before .before .before .before .draw .result
-copied-bytes c = length-take-le _ _ (written-within (c .before .before .before .before .draw .ensures))
+slice-aggregate-put-answer : tie.Need-slice-aggregate-put-answer
+slice-aggregate-put-answer c = sym (length-take-le _ _ (written-within (c .before .before .draw .ensures)))
 
-slice-aggregate-put-bytes : tie.Need-slice-aggregate-put-bytes
-slice-aggregate-put-bytes c = sym (copied-bytes c)
-
-put-bytes-requires : tie.Need-put-bytes-requires
-put-bytes-requires c κs = omega (arith, copied-bytes c, c .before .before .if2 .left)
+put-answer-requires : tie.Need-put-answer-requires
+put-answer-requires c κs = search needs
 
 same-length : tie.Need-same-length
 same-length c = search needs
 
-returns-3 : tie.Need-returns-3
-returns-3 c =
+returns-2 : tie.Need-returns-2
+returns-2 c =
     let w = c .before .before in
-    let i = w .before .before .before in
-    let d = i .before .before in
+    let d = w .before .before .before .before in
     let p = d .before .before in
     let a = stored-at (p .before) in
-    routed-promised _ _ (read-at (p .before)) (a .accepted) (now (p .before .before .before .before .before .before .before .args .out)) _ _
-    (drawn-length _ a _ (p .plan-job .ensures .0) (d .draw .ensures))
-    (copied _ a _ (p .plan-job .ensures .0) (d .draw .ensures) (w .put-bytes .ensures))
-    (omega (arith, i .if2 .left))
+    let s = p .before .before .before .before .before .before .before in
+    promised _ (now (s .args .out))
+    (accepted-given routeText (now (s .args .job)) (now (s .args .out)) _ (read-at (p .before)) (drawn-text _ a _ (p .plan-job .ensures .0) (d .draw .ensures)) (w .put-answer .ensures))
 
 pub route-spec : {M : Type 1} → statement M
 route-spec =
@@ -91,9 +79,8 @@ route-spec =
     plan-job-requires
     slice-aggregate-draw
     draw-requires
-    returns-2
     array-share-prefix-drawn
-    slice-aggregate-put-bytes
-    put-bytes-requires
+    slice-aggregate-put-answer
+    put-answer-requires
     same-length
-    returns-3)
+    returns-2)

@@ -1,3 +1,3 @@
 -- Laws of the keys of blocks.
-pub mod Pushing
+pub mod Inserting
 pub mod Sorting

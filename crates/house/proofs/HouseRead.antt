@@ -31,7 +31,7 @@ use Rattle.jobfile.specs.Forms.{noWord, ifLast, formAfter, formOpened, formOf, 
 use Rattle.jobfile.specs.Read.{State, start, opened, sized, filled, closed, Next, go, stop, unless, atStart, atOpened, atSized, atFilled, within, boardOf, emptyJob, withNet, withBlock, netInRange, blockInRange, lastNumber, pinsFree, addNet, addBlock, step, Read, accepted, refused, ended, follow, readFrom, readJob}
 use Rattle.jobfile.proofs.Tests.{within-is, differ-is, net-range-is, block-range-is, last-net, free-is, length-is}
 use Rattle.house.specs.Blocks.{blockNumbers, sortBlocks, EquallyOften}
-use Rattle.house.specs.HouseText.{spacedThen, innerLine, netNumbers, netLine, blockLine, houseLines, endedLines, houseText, houseJob, SameJob}
+use Rattle.house.specs.HouseText.{spacedThen, openingLine, innerLine, closingLine, netNumbers, netLine, blockLine, houseLines, endedLines, houseText, houseJob, SameJob}
 use Rattle.house.proofs.BlockOrder.{sorted-each, sorted-length, sorted-times, sort-same, same-sorted}
 use Rattle.house.proofs.HouseLines.{inWord, rows-form, tracks-form, net-form, block-form, Plain, plain-inner, lines-ended}
 
@@ -156,21 +156,21 @@ text-length (l ∷ ls) a = omega (arith, length-append l (10 ∷ endedLines ls),
 
 -- ---- the whole text
 
-board-form : readForm (40 ∷ boardWord) ≡ Is.Board
-unfolding readForm formOf formOpened formAfter ifLast noWord lineWords spaced pieces joined nonEmpty findWord findFrom same
+board-form : readForm (openingLine boardWord) ≡ Is.Board
+unfolding openingLine readForm formOf formOpened formAfter ifLast noWord lineWords spaced pieces joined nonEmpty findWord findFrom same
 board-form = refl
 
-close-form : readForm (41 ∷ []) ≡ Is.Close
+close-form : readForm closingLine ≡ Is.Close
 unfolding readForm formOf ifLast noWord lineWords spaced pieces joined nonEmpty same
 close-form = refl
 
 heads-read : (h k : ℕ) (rest : List (List ℕ)) → (1 ≤ h) × (h ≤ 1024) → (1 ≤ k) × (k ≤ 128) →
-    readFrom 1 start ((40 ∷ boardWord) ∷ innerLine rowsWord (h ∷ []) ∷ innerLine tracksWord (k ∷ []) ∷ rest) ≡ readFrom 4 (filled (emptyJob (boardOf h k))) rest
+    readFrom 1 start (openingLine boardWord ∷ innerLine rowsWord (h ∷ []) ∷ innerLine tracksWord (k ∷ []) ∷ rest) ≡ readFrom 4 (filled (emptyJob (boardOf h k))) rest
 unfolding readFrom step follow atStart atOpened atSized unless
 heads-read h k rest r t =
     rw (board-form, rows-form h (omega arith), within-is 1 1024 h .1 r, tracks-form k (omega arith), within-is 1 128 k .1 t)
 
-close-read : (n : ℕ) (job : Job) → readFrom n (filled job) ((41 ∷ []) ∷ []) ≡ accepted job
+close-read : (n : ℕ) (job : Job) → readFrom n (filled job) (closingLine ∷ []) ≡ accepted job
 unfolding readFrom step follow atFilled ended
 close-read n job = rw close-form
 
@@ -179,7 +179,7 @@ module _ (job : Job) (a : AcceptedJob job) where
   blocks-good = sorted-each (BlockInRange (job .board)) (job .blocks) (Each-each (job .blocks) (a .blocks-each))
 
   lines-short : Each ShortLine (houseLines job)
-  unfolding houseLines inWord allOf
+  unfolding houseLines openingLine inWord allOf
   lines-short =
       let b = a .board-range in
       let size : (w : List ℕ) (x : ℕ) → allOf inWord w ≡ true → length w ≤ 6 → x < 10000 → ShortLine (innerLine w (x ∷ [])) =
@@ -203,8 +203,8 @@ module _ (job : Job) (a : AcceptedJob job) where
   lines-count =
       omega (
         arith,
-        length-append (map netLine (job .nets)) (map blockLine (sortBlocks (job .blocks)) ++ ((41 ∷ []) ∷ [])),
-        length-append (map blockLine (sortBlocks (job .blocks))) ((41 ∷ []) ∷ []),
+        length-append (map netLine (job .nets)) (map blockLine (sortBlocks (job .blocks)) ++ (closingLine ∷ [])),
+        length-append (map blockLine (sortBlocks (job .blocks))) (closingLine ∷ []),
         length-map (job .nets) netLine,
         length-map (sortBlocks (job .blocks)) blockLine,
         sorted-length (job .blocks),
@@ -226,10 +226,10 @@ module _ (job : Job) (a : AcceptedJob job) where
   unfolding readJob houseLines
   house-read =
       let b = a .board-range in
-      let behind = map blockLine (sortBlocks (job .blocks)) ++ ((41 ∷ []) ∷ []) in
+      let behind = map blockLine (sortBlocks (job .blocks)) ++ (closingLine ∷ []) in
       let h = heads-read (job .board .rows) (job .board .tracks) (map netLine (job .nets) ++ behind) (b .rows-range) (b .tracks-range) in
       let n = nets-read 4 (job .board) [] (job .nets) (job .blocks) behind a in
-      let c = blocks-read (4 + length (job .nets)) (job .board) (job .nets) [] (sortBlocks (job .blocks)) ((41 ∷ []) ∷ []) b blocks-good
+      let c = blocks-read (4 + length (job .nets)) (job .board) (job .nets) [] (sortBlocks (job .blocks)) (closingLine ∷ []) b blocks-good
       (omega (arith, sorted-length (job .blocks), a .blocks-count)) in
       rw (le-leb (length (houseText job)) 64000 (omega (arith, house-length)), house-lines)
       (h ∙ n ∙ c ∙ close-read (4 + length (job .nets) + length (sortBlocks (job .blocks))) (houseJob job))

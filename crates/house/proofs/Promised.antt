@@ -1,8 +1,7 @@
 -- What is promised of the fixed text of an accepted job. Assumes nothing.
-use mathlib.Core.Path.{_≡_, refl, sym, ap, _∙_}
+use mathlib.Core.Path.{_≡_, refl}
 use Rattle.board.specs.Job.{Job}
 use Rattle.board.specs.Accepted.{AcceptedJob}
-use Rattle.jobfile.specs.Read.{accepted}
 use Rattle.house.specs.Blocks.{sortBlocks}
 use Rattle.house.specs.HouseText.{houseLines, houseText, houseJob}
 use Rattle.house.specs.Promises.{ReadsBack, OneText, FixedAgain}
@@ -10,12 +9,9 @@ use Rattle.house.proofs.BlockOrder.{sorted, sorted-times, sorted-moved,
 use Rattle.house.proofs.HouseRead.{house-read, one-text}
 
 -- the job that is read back has the same text
-again : (job : Job) → houseText (houseJob job) ≡ houseText job
+again : (job : Job) → houseText job ≡ houseText (houseJob job)
 unfolding houseText houseLines
 again job = rw (sort-same (sortBlocks (job .blocks)) (job .blocks) (sorted-times (job .blocks)))
-
-read-one : {x y : Job} → accepted x ≡ accepted y → x ≡ y
-read-one e = cc
 
 module _ (job : Job) (a : AcceptedJob job) where
   pub house-back : ReadsBack job (houseText job)
@@ -25,6 +21,7 @@ module _ (job : Job) (a : AcceptedJob job) where
         read-as = house-read job a;
         board-same = refl;
         nets-same = refl;
+        nets-rise = a .numbers-rise;
         blocks-sorted = sorted (job .blocks);
         blocks-often = sorted-times (job .blocks);
         blocks-moved = sorted-moved (job .blocks);
@@ -33,5 +30,5 @@ module _ (job : Job) (a : AcceptedJob job) where
   pub house-one : OneText job (houseText job)
   house-one other b = one-text job other a b
 
-  pub house-again : FixedAgain job (houseText job)
-  house-again back e = ap houseText (read-one (sym e ∙ house-read job a)) ∙ again job
+  pub house-again : FixedAgain (houseText job)
+  house-again = (houseJob job, (house-read job a, again job))

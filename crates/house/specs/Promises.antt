@@ -1,8 +1,9 @@
 -- Order 1: what is promised of the fixed text of a job.
-use Prim.Native.Nat.{ℕ}
+use Prim.Native.Nat.{ℕ, _<_}
 use mathlib.Core.Path.{_≡_}
 use mathlib.Core.Logic.{_↔_}
 use mathlib.Core.List.{List, List·Permᴰ}
+use lib.ListN.{length}
 use Rattle.lists.specs.Lists.{EachPair}
 use Rattle.board.specs.Job.{Job}
 use Rattle.board.specs.Accepted.{AcceptedJob}
@@ -14,21 +15,26 @@ use Rattle.house.specs.HouseText.{houseText, SameJob}
 abbrev pub IsFixed : Job → List ℕ → Type 0
 IsFixed job text = text ≡ houseText job
 
--- reading the text gives the same board, the same nets in the same order, and the same blocks with their order alone changed: by track, A and
--- B, each as often as before
+-- n is the length of the fixed text of the job
+abbrev pub FixedLength : Job → ℕ → Type 0
+FixedLength job n = n ≡ length (houseText job)
+
+-- reading the text gives the same board, the same nets in the same order, which is by number, and the same blocks with their order alone
+-- changed: by track, A and B, each as often as before
 pub record ReadsBack (job : Job) (text : List ℕ) : Type 0 where
   pub back : Job
   pub read-as : readJob text ≡ accepted back
   pub board-same : back .board ≡ job .board
   pub nets-same : back .nets ≡ job .nets
+  pub nets-rise : EachPair (λ m n. m .number < n .number) (back .nets)
   pub blocks-sorted : EachPair Before (back .blocks)
   pub blocks-often : EquallyOften (back .blocks) (job .blocks)
   pub blocks-moved : List·Permᴰ (back .blocks) (job .blocks)
 
--- any accepted job has this text exactly if it agrees in board and nets and holds the same blocks equally often
+-- an accepted job has this text exactly if the two agree in board and nets and hold the same blocks equally often
 abbrev pub OneText : Job → List ℕ → Type 0
 OneText job text = (other : Job) → AcceptedJob other → (text ≡ houseText other) ↔ SameJob job other
 
--- the text is its own fixed text
-abbrev pub FixedAgain : Job → List ℕ → Type 0
-FixedAgain job text = (back : Job) → readJob text ≡ accepted back → houseText back ≡ text
+-- the text is its own fixed text: it is read as a job, and is the fixed text of that
+abbrev pub FixedAgain : List ℕ → Type 0
+FixedAgain text = (back : Job) × ((readJob text ≡ accepted back) × (text ≡ houseText back))

@@ -7,7 +7,7 @@ use lib.ListN.{length, getD}
 use lib.Seq.{slice, slice-cons, slice-empty}
 use Rattle.lists.specs.Lists.{Each}
 use Rattle.text.specs.Digits.{digits}
-use Rattle.keywords.specs.Keywords.{rowsWord, tracksWord, wordOf, headText}
+use Rattle.keywords.specs.Keywords.{boardWord, rowsWord, tracksWord, wordOf, headText}
 use Rattle.keywords.specs.declared.Vocabulary.the-variants.{Job}
 use Rattle.board.specs.declared.Board.{Board}
 use Rattle.board.specs.declared.Net.{Net}
@@ -16,17 +16,17 @@ use Rattle.board.specs.Job as model
 use Rattle.board.specs.declared.StoredJob.{StoredJob}
 use Rattle.board.specs.Stored.{jobOf, noNet, AcceptedStored}
 use Rattle.house.specs.Blocks.{sortBlocks}
-use Rattle.house.specs.HouseText.{spacedThen, innerLine, netLine, blockLine, houseLines, endedLines, houseText}
+use Rattle.house.specs.HouseText.{spacedThen, openingLine, innerLine, closingLine, netLine, blockLine, houseLines, endedLines, houseText}
 use Rattle.house.proofs.BlockOrder.{sorted-each}
 use Rattle.blocksort.specs.Keys.{SmallBlock, blockKey, keyBlock}
 use Rattle.blocksort.proofs.Sorting.{key-back, small-blocks}
-use Rattle.housewriter.specs.Parts.{ended, firstLine, lastLine, twoText, topText, netsText, blocksText}
+use Rattle.housewriter.specs.Parts.{ended, twoText, topText, netsText, blocksText}
 
 -- ---- lines
 
-pub first-parts : ended firstLine ≡ ((40 ∷ []) ++ wordOf Job 0) ++ (10 ∷ [])
-unfolding firstLine wordOf
-first-parts = refl
+pub opening-parts : ended (openingLine boardWord) ≡ ((40 ∷ []) ++ wordOf Job 0) ++ (10 ∷ [])
+unfolding openingLine wordOf
+opening-parts = refl
 
 -- numbers and what is behind them, with a byte more
 spaced-ended : (ns rest : List ℕ) → spacedThen ns rest ++ (10 ∷ []) ≡ spacedThen ns (rest ++ (10 ∷ []))
@@ -74,7 +74,7 @@ block-parts b =
 
 -- ---- the whole
 
-pub top-parts : (board : Board) → topText board ≡ ended firstLine ++ (ended (innerLine (wordOf Job 1) (board .rows ∷ [])) ++ ended (innerLine (wordOf Job 2) (board .tracks ∷ [])))
+pub top-parts : (board : Board) → topText board ≡ ended (openingLine boardWord) ++ (ended (innerLine (wordOf Job 1) (board .rows ∷ [])) ++ ended (innerLine (wordOf Job 2) (board .tracks ∷ [])))
 unfolding topText wordOf
 top-parts board = refl
 
@@ -95,25 +95,25 @@ blocks-ended [] ls = refl
 blocks-ended (b ∷ bs) ls =
     one-ended (blockLine b) (map blockLine bs ++ ls) ∙ ap (λ l. ended (blockLine b) ++ l) (blocks-ended bs ls) ∙ sym (append-assoc (ended (blockLine b)) (blocksText bs) (endedLines ls))
 
-last-ended : endedLines (lastLine ∷ []) ≡ ended lastLine
+last-ended : endedLines (closingLine ∷ []) ≡ ended closingLine
 unfolding endedLines
 last-ended = refl
 
 pub house-parts : (job : model.Job) → houseText job ≡
-    topText (job .board) ++ (netsText (job .nets) ++ (blocksText (sortBlocks (job .blocks)) ++ ended lastLine))
-unfolding houseText houseLines topText firstLine
+    topText (job .board) ++ (netsText (job .nets) ++ (blocksText (sortBlocks (job .blocks)) ++ ended closingLine))
+unfolding houseText houseLines topText
 house-parts job =
-    let ls = lastLine ∷ [] in
+    let ls = closingLine ∷ [] in
     let bs = map blockLine (sortBlocks (job .blocks)) ++ ls in
     let ns = map netLine (job .nets) ++ bs in
     let rows = innerLine rowsWord (job .board .rows ∷ []) in
     let tracks = innerLine tracksWord (job .board .tracks ∷ []) in
-    let behind = netsText (job .nets) ++ (blocksText (sortBlocks (job .blocks)) ++ ended lastLine) in
+    let behind = netsText (job .nets) ++ (blocksText (sortBlocks (job .blocks)) ++ ended closingLine) in
     let tail : endedLines ns ≡ behind =
     nets-ended (job .nets) bs ∙ ap (λ l. netsText (job .nets) ++ l) (blocks-ended (sortBlocks (job .blocks)) ls ∙ ap (λ l. blocksText (sortBlocks (job .blocks)) ++ l) last-ended) in
-    one-ended firstLine (rows ∷ tracks ∷ ns) ∙
-    ap (λ l. ended firstLine ++ l) (one-ended rows (tracks ∷ ns) ∙ ap (λ l. ended rows ++ l) (one-ended tracks ns ∙ ap (λ l. ended tracks ++ l) tail)) ∙
-    three (ended firstLine) (ended rows) (ended tracks) behind
+    one-ended (openingLine boardWord) (rows ∷ tracks ∷ ns) ∙
+    ap (λ l. ended (openingLine boardWord) ++ l) (one-ended rows (tracks ∷ ns) ∙ ap (λ l. ended rows ++ l) (one-ended tracks ns ∙ ap (λ l. ended tracks ++ l) tail)) ∙
+    three (ended (openingLine boardWord)) (ended rows) (ended tracks) behind
   where
     three : (a b c d : List ℕ) → a ++ (b ++ (c ++ d)) ≡ (a ++ (b ++ c)) ++ d
     three a b c d = simp append-assoc

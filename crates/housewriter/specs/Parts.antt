@@ -6,18 +6,11 @@ use Rattle.keywords.specs.Keywords.{boardWord, rowsWord, tracksWord}
 use Rattle.board.specs.declared.Board.{Board}
 use Rattle.board.specs.declared.Net.{Net}
 use Rattle.board.specs.declared.Block.{Block}
-use Rattle.house.specs.HouseText.{innerLine, netLine, blockLine}
+use Rattle.house.specs.HouseText.{openingLine, innerLine, netLine, blockLine}
 
 -- a line and its byte 10
 abbrev pub ended : List ℕ → List ℕ
 ended l = l ++ (10 ∷ [])
-
--- the first line and the last, without their byte 10
-unfoldable pub firstLine : List ℕ
-firstLine = 40 ∷ boardWord
-
-abbrev pub lastLine : List ℕ
-lastLine = 41 ∷ []
 
 -- two numbers, each behind a space
 abbrev pub twoText : ℕ → ℕ → List ℕ
@@ -25,7 +18,7 @@ twoText a b = (32 ∷ digits a) ++ (32 ∷ digits b)
 
 -- the lines of the board
 unfoldable pub topText : Board → List ℕ
-topText board = ended firstLine ++ (ended (innerLine rowsWord (board .rows ∷ [])) ++ ended (innerLine tracksWord (board .tracks ∷ [])))
+topText board = ended (openingLine boardWord) ++ (ended (innerLine rowsWord (board .rows ∷ [])) ++ ended (innerLine tracksWord (board .tracks ∷ [])))
 
 -- the lines of nets
 unfoldable pub netsText : List Net → List ℕ

@@ -4,12 +4,12 @@ ghost use Prim.Native.Nat.{_+_, _≤_, _<_};
 ghost use lib.ListN.{length, take};
 ghost use Rattle.text.specs.Written.{Written, WrittenAt};
 ghost use Rattle.board.specs.Stored.{jobOf, AcceptedStored};
-ghost use Rattle.keywords.specs.Keywords.{wordOf};
+ghost use Rattle.keywords.specs.Keywords.{boardWord, wordOf};
 ghost use Rattle.keywords.specs.declared.Vocabulary.the-variants.{Job};
 ghost use Rattle.house.specs.Blocks.{sortBlocks};
-ghost use Rattle.house.specs.HouseText.{innerLine, netLine, blockLine, houseText};
+ghost use Rattle.house.specs.HouseText.{openingLine, innerLine, closingLine, netLine, blockLine, houseText};
 ghost use Rattle.blocksort.specs.Keys.{keyBlock};
-ghost use Rattle.housewriter.specs.Parts.{ended, firstLine, lastLine, twoText, topText, netsText, blocksText};
+ghost use Rattle.housewriter.specs.Parts.{ended, twoText, topText, netsText, blocksText};
 use board::Block;
 use board::Board;
 use board::Net;
@@ -29,8 +29,8 @@ fn put_two(out: &mut [u8], at: usize, a: usize, b: usize) -> usize
 
 // Writes the first line, "(board".
 fn board_line(out: &mut [u8]) -> usize
-    requires { ⌜ length (ended firstLine) ≤ length (now out) ⌝ }
-    ensures { λ r. ⌜ Written (ended firstLine) (now (out .entry)) (now (out .exit)) r ⌝ }
+    requires { ⌜ length (ended (openingLine boardWord)) ≤ length (now out) ⌝ }
+    ensures { λ r. ⌜ Written (ended (openingLine boardWord)) (now (out .entry)) (now (out .exit)) r ⌝ }
 {
     let a = text::put_bytes_at(out, 0, b"(");
     let b = keywords::put_word_at(out, a, Vocabulary::Job, 0);
@@ -76,8 +76,8 @@ fn block_line(out: &mut [u8], block: Block) -> usize
 
 // Writes the last line, ")".
 fn closing_line(out: &mut [u8]) -> usize
-    requires { ⌜ length (ended lastLine) ≤ length (now out) ⌝ }
-    ensures { λ r. ⌜ Written (ended lastLine) (now (out .entry)) (now (out .exit)) r ⌝ }
+    requires { ⌜ length (ended closingLine) ≤ length (now out) ⌝ }
+    ensures { λ r. ⌜ Written (ended closingLine) (now (out .entry)) (now (out .exit)) r ⌝ }
 {
     text::put_bytes(out, b")\n")
 }
@@ -86,8 +86,8 @@ fn closing_line(out: &mut [u8]) -> usize
 
 // Writes the first line from a place on.
 fn put_board(out: &mut [u8], at: usize) -> usize
-    requires { ⌜ at + length (ended firstLine) ≤ length (now out) ⌝ }
-    ensures { λ r. ⌜ WrittenAt at (ended firstLine) (now (out .entry)) (now (out .exit)) r ⌝ }
+    requires { ⌜ at + length (ended (openingLine boardWord)) ≤ length (now out) ⌝ }
+    ensures { λ r. ⌜ WrittenAt at (ended (openingLine boardWord)) (now (out .entry)) (now (out .exit)) r ⌝ }
 {
     at + board_line(&mut out[at..])
 }
@@ -119,8 +119,8 @@ fn put_block(out: &mut [u8], at: usize, block: Block) -> usize
 
 // Writes the last line from a place on.
 fn put_closing(out: &mut [u8], at: usize) -> usize
-    requires { ⌜ at + length (ended lastLine) ≤ length (now out) ⌝ }
-    ensures { λ r. ⌜ WrittenAt at (ended lastLine) (now (out .entry)) (now (out .exit)) r ⌝ }
+    requires { ⌜ at + length (ended closingLine) ≤ length (now out) ⌝ }
+    ensures { λ r. ⌜ WrittenAt at (ended closingLine) (now (out .entry)) (now (out .exit)) r ⌝ }
 {
     at + closing_line(&mut out[at..])
 }

@@ -7,16 +7,16 @@ use lib.ListN.{length}
 use denote.Ref.{now}
 use Rattle.text.specs.Runs.{Going}
 use Rattle.text.proofs.Runs.{going-start, going-on, going-room, going-more, last-room, going-last}
-use Rattle.keywords.specs.Keywords.{wordOf}
+use Rattle.keywords.specs.Keywords.{boardWord, wordOf}
 use Rattle.keywords.specs.declared.Vocabulary.the-variants.{Job}
-use Rattle.house.specs.HouseText.{innerLine}
-use Rattle.housewriter.specs.Parts.{ended, firstLine, topText}
+use Rattle.house.specs.HouseText.{openingLine, innerLine}
+use Rattle.housewriter.specs.Parts.{ended, topText}
 use Rattle.housewriter.proofs.Parts.{top-parts}
 use Rattle.housewriter.proofs.put_top.Statement.{statement}
 use Rattle.housewriter.proofs.put_top.Tie as tie
 
 abbrev opening : List ℕ
-opening = ended firstLine
+opening = ended (openingLine boardWord)
 
 abbrev rows : tie.Start → List ℕ
 rows s = ended (innerLine (wordOf Job 1) (s .args .board .rows ∷ []))

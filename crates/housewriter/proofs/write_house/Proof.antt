@@ -8,10 +8,10 @@ use denote.Ref.{now}
 use Rattle.text.specs.Runs.{Going}
 use Rattle.text.proofs.Runs.{going-start, going-on, going-room, going-more, last-room, going-last}
 use Rattle.text.proofs.Writing.{from-start}
-use Rattle.housewriter.specs.Parts.{ended, lastLine, topText, netsText, blocksText}
+use Rattle.housewriter.specs.Parts.{ended, topText, netsText, blocksText}
 use Rattle.board.specs.Stored.{jobOf}
 use Rattle.house.specs.Blocks.{sortBlocks}
-use Rattle.house.specs.HouseText.{houseText}
+use Rattle.house.specs.HouseText.{closingLine, houseText}
 use Rattle.housewriter.proofs.Parts.{house-parts}
 use Rattle.housewriter.proofs.write_house.Statement.{statement}
 use Rattle.housewriter.proofs.write_house.Tie as tie
@@ -26,7 +26,7 @@ abbrev blocks : tie.Start → List ℕ
 blocks s = blocksText (sortBlocks (jobOf (s .args .job) .blocks))
 
 abbrev closing : List ℕ
-closing = ended lastLine
+closing = ended closingLine
 
 abbrev whole : tie.Start → List ℕ
 whole s = houseText (jobOf (s .args .job))

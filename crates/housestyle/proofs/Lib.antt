@@ -1,0 +1,2 @@
+-- Laws of house's answer.
+pub mod Answering

@@ -18,6 +18,9 @@ use Rattle.answers.specs.declared.TextAnswer.the-variants.{Refused, TooSmall, W
 use Rattle.answers.specs.Answers.{answerValues, textAnswer, RightFor, bufferAfter, OfWritten}
 use Rattle.router.specs.LayoutLength.{LayoutLength}
 use Rattle.router.proofs.Answering.{Promised}
+use Rattle.house.specs.HouseText.{houseText}
+use Rattle.house.specs.Promises.{IsFixed, FixedLength, ReadsBack, OneText, FixedAgain}
+use Rattle.housestyle.proofs.Answering.{Promised as HousePromised}
 use Rattle.exports.specs.Exported.{RepliesWith}
 
 module _ (Length : Job → ℕ → Type 0) (file : List ℕ) (room : ℕ) (after : List ℕ) (a : TextAnswer) (right : RightFor Length file room a) (n l b : ℕ)
@@ -56,5 +59,26 @@ reply-given file before a after p n l b e f g =
       (
         told .1,
         (w .0, (out (λ j text. ShortestText j (planOf j) text) (w .1 .0), (out (λ j text. Sound j text) (w .1 .1 .0), out (λ j text. UnbeatenText j text) (w .1 .1 .1)))),
+      ),
+    )
+
+-- of house
+pub house-given : (file before : List ℕ) (a : TextAnswer) (after : List ℕ) → HousePromised file before a after → (n l b : ℕ) →
+    n ≡ answerValues a .number → l ≡ answerValues a .line → b ≡ answerValues a .bytes →
+    RepliesWith (textAnswer houseText (readJob file) (length before)) n l b ×
+    (((y : TextAnswer) × (RepliesWith y n l b × RightFor FixedLength file (length before) y)) ×
+    ((after ≡ bufferAfter houseText (readJob file) before) ×
+    ((n ≡ 0 → OfAccepted (λ j. IsFixed j (take b after)) (readJob file)) ×
+    ((n ≡ 0 → OfAccepted (λ j. ReadsBack j (take b after)) (readJob file)) ×
+    ((n ≡ 0 → OfAccepted (λ j. OneText j (take b after)) (readJob file)) ×
+    (n ≡ 0 → OfAccepted (λ j. FixedAgain (take b after)) (readJob file)))))))
+house-given file before a after p n l b e f g =
+    let w = p .1 .1 .1 in
+    let told = replied FixedLength file (length before) after a (p .1 .1 .0) n l b e f g _ (p .0) in
+    let out = handed FixedLength file (length before) after a (p .1 .1 .0) n l b e f g in (
+      told .0,
+      (
+        told .1,
+        (w .0, (out IsFixed (w .1 .0), (out ReadsBack (w .1 .1 .0), (out OneText (w .1 .1 .1 .0), out (λ j text. FixedAgain text) (w .1 .1 .1 .1))))),
       ),
     )

@@ -1,5 +1,5 @@
-// What a program in another language can call: route and check, and, to be measured by `bench/`, the parts of route: reading a job, and
-// planning it.
+// What a program in another language can call: route, check and house, and, to be measured by `bench/`, the parts of route: reading a job,
+// and planning it.
 ghost use mathlib.Core.Path.{_≡_};
 ghost use Prim.Native.Nat.{_≤_};
 ghost use lib.ListN.{length, take};
@@ -10,6 +10,8 @@ ghost use Rattle.sound.specs.Sound.{Sound};
 ghost use Rattle.routing.specs.Promises.{ShortestText, UnbeatenText};
 ghost use Rattle.routing.specs.Route.{routeText};
 ghost use Rattle.router.specs.LayoutLength.{LayoutLength};
+ghost use Rattle.house.specs.HouseText.{houseText};
+ghost use Rattle.house.specs.Promises.{IsFixed, FixedLength, ReadsBack, OneText, FixedAgain};
 ghost use Rattle.answers.specs.declared.TextAnswer.{TextAnswer};
 ghost use Rattle.answers.specs.Answers.{textAnswer, RightFor, bufferAfter};
 ghost use Rattle.checker.specs.declared.CheckAnswer.{CheckAnswer};
@@ -35,6 +37,29 @@ pub extern "C" fn hankuribo_route(
     ensures unbeaten { λ r. ⌜ (r ≡ 0 → OfAccepted (λ j. UnbeatenText j (take (now (bytes .exit)) (now (out .exit)))) (readJob (now (job .entry)))) ⌝ }
 {
     let answer = router::route(job, out);
+    *line = answers::answer_line(answer);
+    *bytes = answers::answer_bytes(answer);
+    answers::answer_number(answer)
+}
+
+// Writes the fixed text of a job into a buffer, and answers in document 01's numbers, as `hankuribo_route` does. Where the number is 0, order
+// 1's promises hold of as many bytes of the buffer as are told.
+#[no_mangle]
+pub extern "C" fn hankuribo_house(
+    job: &[u8],
+    out: &mut [u8],
+    line: &mut usize,
+    bytes: &mut usize,
+) -> usize
+    ensures answer { λ r. ⌜ RepliesWith (textAnswer houseText (readJob (now (job .entry))) (length (now (out .entry)))) r (now (line .exit)) (now (bytes .exit)) ⌝ }
+    ensures right { λ r. ⌜ ((a : TextAnswer) × (RepliesWith a r (now (line .exit)) (now (bytes .exit)) × RightFor FixedLength (now (job .entry)) (length (now (out .entry))) a)) ⌝ }
+    ensures buffer { λ _. ⌜ now (out .exit) ≡ bufferAfter houseText (readJob (now (job .entry))) (now (out .entry)) ⌝ }
+    ensures fixed { λ r. ⌜ (r ≡ 0 → OfAccepted (λ j. IsFixed j (take (now (bytes .exit)) (now (out .exit)))) (readJob (now (job .entry)))) ⌝ }
+    ensures read_back { λ r. ⌜ (r ≡ 0 → OfAccepted (λ j. ReadsBack j (take (now (bytes .exit)) (now (out .exit)))) (readJob (now (job .entry)))) ⌝ }
+    ensures one_text { λ r. ⌜ (r ≡ 0 → OfAccepted (λ j. OneText j (take (now (bytes .exit)) (now (out .exit)))) (readJob (now (job .entry)))) ⌝ }
+    ensures again { λ r. ⌜ (r ≡ 0 → OfAccepted (λ j. FixedAgain (take (now (bytes .exit)) (now (out .exit)))) (readJob (now (job .entry)))) ⌝ }
+{
+    let answer = housestyle::house(job, out);
     *line = answers::answer_line(answer);
     *bytes = answers::answer_bytes(answer);
     answers::answer_number(answer)

@@ -8,6 +8,8 @@ ghost use Rattle.planning.specs.Plan.{planOf};
 ghost use Rattle.sound.specs.Sound.{Sound};
 ghost use Rattle.routing.specs.Route.{routeText};
 ghost use Rattle.routing.specs.Promises.{ShortestText, UnbeatenText};
+ghost use Rattle.house.specs.HouseText.{houseText};
+ghost use Rattle.house.specs.Promises.{IsFixed, ReadsBack, OneText, FixedAgain};
 ghost use Rattle.printing.specs.Printed.{printedText, RefusalFits, Reported};
 
 // A text to print: the first `used` bytes. There is room for every text, so what is printed is never cut.
@@ -38,6 +40,20 @@ pub fn print_route(job: &[u8]) -> Printed
 {
     let mut bytes = [0u8; 64000];
     let answer = router::route(job, &mut bytes);
+    let used = put_report(&mut bytes, answer);
+    Printed { bytes, used }
+}
+
+// Writes the fixed text of a job, and gives what the program prints for it: that text, or the line of the refusal.
+pub fn print_house(job: &[u8]) -> Printed
+    ensures printed { λ r. ⌜ Written (printedText houseText (readJob (now (job .entry)))) (replicate 64000 0) (r .bytes) (r .used) ⌝ }
+    ensures fixed { λ r. ⌜ OfAccepted (λ j. IsFixed j (take (r .used) (r .bytes))) (readJob (now (job .entry))) ⌝ }
+    ensures read_back { λ r. ⌜ OfAccepted (λ j. ReadsBack j (take (r .used) (r .bytes))) (readJob (now (job .entry))) ⌝ }
+    ensures one_text { λ r. ⌜ OfAccepted (λ j. OneText j (take (r .used) (r .bytes))) (readJob (now (job .entry))) ⌝ }
+    ensures again { λ r. ⌜ OfAccepted (λ j. FixedAgain (take (r .used) (r .bytes))) (readJob (now (job .entry))) ⌝ }
+{
+    let mut bytes = [0u8; 64000];
+    let answer = housestyle::house(job, &mut bytes);
     let used = put_report(&mut bytes, answer);
     Printed { bytes, used }
 }

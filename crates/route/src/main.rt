@@ -1,4 +1,4 @@
 // Reads a job on standard input, and prints its layout, or its refusal as `(refused number line)`.
 fn main() {
-    routeinput::route_input();
+    jobinput::route_input();
 }

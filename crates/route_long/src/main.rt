@@ -1,4 +1,4 @@
 // The route of a job one byte too long: byte 64,001 is seen.
 fn main() {
-    routeinput::route_input();
+    jobinput::route_input();
 }

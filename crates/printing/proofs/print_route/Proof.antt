@@ -1,17 +1,13 @@
 -- `printing::print_route` meets its contract. Assumes nothing.
 use Prim.Native.Nat.{ℕ}
-use mathlib.Core.Path.{_≡_, refl}
+use mathlib.Core.Path.{refl}
 use lib.ListN.{replicate, length-replicate}
 use borrow.Author.Needs.{needs}
-use denote.Ref.{now}
-use Rattle.text.specs.Written.{Written}
-use Rattle.jobfile.specs.Read.{readJob}
 use Rattle.planning.specs.Plan.{planOf}
 use Rattle.sound.specs.Sound.{Sound}
 use Rattle.routing.specs.Route.{routeText}
 use Rattle.routing.specs.Promises.{ShortestText, UnbeatenText}
 use Rattle.routing.proofs.RouteUnbeaten.{route-length, route-demanded}
-use Rattle.printing.specs.Printed.{printedText}
 use Rattle.printing.proofs.Printing.{refusal-fits, report-printed, held-printed}
 use Rattle.printing.proofs.print_route.Statement.{statement}
 use Rattle.printing.proofs.print_route.Tie as tie

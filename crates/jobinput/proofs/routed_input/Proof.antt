@@ -1,11 +1,11 @@
--- `routeinput::routed_input` meets its contract. Assumes nothing.
+-- `jobinput::routed_input` meets its contract. Assumes nothing.
 use mathlib.Core.Path.{sym}
 use lib.Seq.{length-take-le}
 use Rattle.files.specs.FileTexts.{textOf}
 use Rattle.text.proofs.Writing.{written-within}
 use borrow.Author.Needs.{needs}
-use Rattle.routeinput.proofs.routed_input.Statement.{statement}
-use Rattle.routeinput.proofs.routed_input.Tie as tie
+use Rattle.jobinput.proofs.routed_input.Statement.{statement}
+use Rattle.jobinput.proofs.routed_input.Tie as tie
 
 text-from-requires : tie.Need-text-from-requires
 text-from-requires c κs = search needs

@@ -1,4 +1,4 @@
--- The fixed text of a job is its parts one behind another, and each line is the parts that its writer writes. Assumes nothing.
+-- The fixed text of a job is its parts one behind another, line by line. Assumes nothing.
 use Prim.Native.Nat.{ℕ, _+_, _≤_, _<_}
 use mathlib.Core.Path.{_≡_, refl, sym, ap, ap₂, _∙_}
 use mathlib.Core.List.{List, [], _∷_, _++_, map, append-assoc}
@@ -6,8 +6,7 @@ use native.Mathlib.Numerals.{add-one}
 use lib.ListN.{length, getD}
 use lib.Seq.{slice, slice-cons, slice-empty}
 use Rattle.lists.specs.Lists.{Each}
-use Rattle.text.specs.Digits.{digits}
-use Rattle.keywords.specs.Keywords.{boardWord, rowsWord, tracksWord, wordOf, headText}
+use Rattle.keywords.specs.Keywords.{boardWord, rowsWord, tracksWord, wordOf}
 use Rattle.keywords.specs.declared.Vocabulary.the-variants.{Job}
 use Rattle.board.specs.declared.Board.{Board}
 use Rattle.board.specs.declared.Net.{Net}
@@ -16,63 +15,12 @@ use Rattle.board.specs.Job as model
 use Rattle.board.specs.declared.StoredJob.{StoredJob}
 use Rattle.board.specs.Stored.{jobOf, noNet, AcceptedStored}
 use Rattle.house.specs.Blocks.{sortBlocks}
-use Rattle.house.specs.HouseText.{spacedThen, openingLine, innerLine, closingLine, netLine, blockLine, houseLines, endedLines, houseText}
+use Rattle.house.specs.HouseText.{openingLine, innerLine, closingLine, netLine, blockLine, houseLines, endedLines, houseText}
 use Rattle.house.proofs.BlockOrder.{sorted-each}
 use Rattle.blocksort.specs.Keys.{SmallBlock, blockKey, keyBlock}
 use Rattle.blocksort.proofs.Sorting.{key-back, small-blocks}
-use Rattle.housewriter.specs.Parts.{ended, twoText, topText, netsText, blocksText}
-
--- ---- lines
-
-pub opening-parts : ended (openingLine boardWord) ≡ ((40 ∷ []) ++ wordOf Job 0) ++ (10 ∷ [])
-unfolding openingLine wordOf
-opening-parts = refl
-
--- numbers and what is behind them, with a byte more
-spaced-ended : (ns rest : List ℕ) → spacedThen ns rest ++ (10 ∷ []) ≡ spacedThen ns (rest ++ (10 ∷ []))
-unfolding spacedThen
-spaced-ended [] rest = refl
-spaced-ended (n ∷ ns) rest = ap (λ l. 32 ∷ l) (append-assoc (digits n) (spacedThen ns rest) (10 ∷ []) ∙ ap (λ l. digits n ++ l) (spaced-ended ns rest))
-
--- an inner line: how it begins, and the numbers behind the first
-line-parts : (i n : ℕ) (ns : List ℕ) → ended (innerLine (wordOf Job i) (n ∷ ns)) ≡ headText Job i n ++ spacedThen ns (41 ∷ 10 ∷ [])
-unfolding innerLine headText spacedThen
-line-parts i n ns =
-    let t = spacedThen ns (41 ∷ []) in
-    ap (λ l. 32 ∷ 40 ∷ l)
-    (append-assoc (wordOf Job i) (32 ∷ (digits n ++ t)) (10 ∷ []) ∙
-    ap (λ l. wordOf Job i ++ (32 ∷ l)) (append-assoc (digits n) t (10 ∷ []) ∙ ap (λ l. digits n ++ l) (spaced-ended ns (41 ∷ []))) ∙
-    sym (append-assoc (wordOf Job i) (32 ∷ digits n) (spacedThen ns (41 ∷ 10 ∷ []))))
-
-two-parts : (a b : ℕ) (ns rest : List ℕ) → spacedThen (a ∷ b ∷ ns) rest ≡ twoText a b ++ spacedThen ns rest
-unfolding spacedThen
-two-parts a b ns rest = ap (λ l. 32 ∷ l) (sym (append-assoc (digits a) (32 ∷ digits b) (spacedThen ns rest)))
-
-none-parts : (rest : List ℕ) → spacedThen [] rest ≡ rest
-unfolding spacedThen
-none-parts rest = refl
-
-pub size-parts : (i n : ℕ) → ended (innerLine (wordOf Job i) (n ∷ [])) ≡ headText Job i n ++ (41 ∷ 10 ∷ [])
-size-parts i n = line-parts i n [] ∙ ap (λ l. headText Job i n ++ l) (none-parts (41 ∷ 10 ∷ []))
-
-pub net-parts : (n : Net) → ended (netLine n) ≡
-    headText Job 3 (n .number) ++ (twoText (n .left .0) (n .right .0) ++ (twoText (n .min) (n .max) ++ (41 ∷ 10 ∷ [])))
-unfolding wordOf
-net-parts n =
-    line-parts 3 (n .number) (n .left .0 ∷ n .right .0 ∷ n .min ∷ n .max ∷ []) ∙
-    ap (λ l. headText Job 3 (n .number) ++ l)
-    (two-parts (n .left .0) (n .right .0) (n .min ∷ n .max ∷ []) (41 ∷ 10 ∷ []) ∙
-    ap (λ l. twoText (n .left .0) (n .right .0) ++ l)
-    (two-parts (n .min) (n .max) [] (41 ∷ 10 ∷ []) ∙ ap (λ l. twoText (n .min) (n .max) ++ l) (none-parts (41 ∷ 10 ∷ []))))
-
-pub block-parts : (b : Block) → ended (blockLine b) ≡ headText Job 4 (b .track .0) ++ (twoText (b .first .0) (b .last .0) ++ (41 ∷ 10 ∷ []))
-unfolding wordOf
-block-parts b =
-    line-parts 4 (b .track .0) (b .first .0 ∷ b .last .0 ∷ []) ∙
-    ap (λ l. headText Job 4 (b .track .0) ++ l)
-    (two-parts (b .first .0) (b .last .0) [] (41 ∷ 10 ∷ []) ∙ ap (λ l. twoText (b .first .0) (b .last .0) ++ l) (none-parts (41 ∷ 10 ∷ [])))
-
--- ---- the whole
+use Rattle.joblines.specs.Lines.{ended}
+use Rattle.housewriter.specs.Parts.{topText, netsText, blocksText}
 
 pub top-parts : (board : Board) → topText board ≡ ended (openingLine boardWord) ++ (ended (innerLine (wordOf Job 1) (board .rows ∷ [])) ++ ended (innerLine (wordOf Job 2) (board .tracks ∷ [])))
 unfolding topText wordOf

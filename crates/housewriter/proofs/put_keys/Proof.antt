@@ -5,12 +5,12 @@ use Rattle.text.specs.Runs.{Going}
 use Rattle.text.proofs.Runs.{going-start, going-on, going-room, going-more, going-end}
 use Rattle.house.specs.HouseText.{blockLine}
 use Rattle.blocksort.specs.Keys.{keyBlock}
-use Rattle.housewriter.specs.Parts.{ended}
 use Rattle.housewriter.proofs.Parts.{keysOn, keys-last, keys-step}
 use Prim.Native.Nat.{_≤_, _+_, _-_}
 use native.Mathlib.Omega.{arith}
 use borrow.Author.Needs.{needs}
 use lib.ListN.{getD}
+use Rattle.joblines.specs.Lines.{ended}
 use Rattle.housewriter.proofs.put_keys.Statement.{statement}
 use Rattle.housewriter.proofs.put_keys.Tie as tie
 

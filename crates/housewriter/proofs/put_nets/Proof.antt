@@ -5,12 +5,12 @@ use Rattle.text.proofs.Runs.{going-start, going-on, going-room, going-more, goi
 use Rattle.board.specs.Stored.{noNet}
 use Rattle.candidates.proofs.ArraySizes.{net-size}
 use Rattle.house.specs.HouseText.{netLine}
-use Rattle.housewriter.specs.Parts.{ended}
 use Rattle.housewriter.proofs.Parts.{netsOn, nets-last, nets-step}
 use Prim.Native.Nat.{_≤_, _+_, _-_}
 use native.Mathlib.Omega.{arith}
 use borrow.Author.Needs.{needs}
 use lib.ListN.{getD}
+use Rattle.joblines.specs.Lines.{ended}
 use Rattle.housewriter.proofs.put_nets.Statement.{statement}
 use Rattle.housewriter.proofs.put_nets.Tie as tie
 

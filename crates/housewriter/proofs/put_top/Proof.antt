@@ -10,8 +10,9 @@ use Rattle.text.proofs.Runs.{going-start, going-on, going-room, going-more, las
 use Rattle.keywords.specs.Keywords.{boardWord, wordOf}
 use Rattle.keywords.specs.declared.Vocabulary.the-variants.{Job}
 use Rattle.house.specs.HouseText.{openingLine, innerLine}
-use Rattle.housewriter.specs.Parts.{ended, topText}
+use Rattle.housewriter.specs.Parts.{topText}
 use Rattle.housewriter.proofs.Parts.{top-parts}
+use Rattle.joblines.specs.Lines.{ended}
 use Rattle.housewriter.proofs.put_top.Statement.{statement}
 use Rattle.housewriter.proofs.put_top.Tie as tie
 

@@ -8,11 +8,12 @@ use denote.Ref.{now}
 use Rattle.text.specs.Runs.{Going}
 use Rattle.text.proofs.Runs.{going-start, going-on, going-room, going-more, last-room, going-last}
 use Rattle.text.proofs.Writing.{from-start}
-use Rattle.housewriter.specs.Parts.{ended, topText, netsText, blocksText}
+use Rattle.housewriter.specs.Parts.{topText, netsText, blocksText}
 use Rattle.board.specs.Stored.{jobOf}
 use Rattle.house.specs.Blocks.{sortBlocks}
 use Rattle.house.specs.HouseText.{closingLine, houseText}
 use Rattle.housewriter.proofs.Parts.{house-parts}
+use Rattle.joblines.specs.Lines.{ended}
 use Rattle.housewriter.proofs.write_house.Statement.{statement}
 use Rattle.housewriter.proofs.write_house.Tie as tie
 

@@ -1,10 +1,10 @@
--- `housewriter::size_line` meets its contract: two writes in a row. Assumes nothing.
+-- `joblines::size_line` meets its contract: two writes in a row. Assumes nothing.
 use native.Mathlib.Omega.{arith}
 use Rattle.text.proofs.Writing.{lengths, kept-at, chain-at, from-start}
-use Rattle.housewriter.proofs.Parts.{size-parts}
+use Rattle.joblines.proofs.Lines.{size-parts}
 use borrow.Author.Needs.{needs}
-use Rattle.housewriter.proofs.size_line.Statement.{statement}
-use Rattle.housewriter.proofs.size_line.Tie as tie
+use Rattle.joblines.proofs.size_line.Statement.{statement}
+use Rattle.joblines.proofs.size_line.Tie as tie
 
 put-head-requires : tie.Need-put-head-requires
 put-head-requires c κs = (omega arith, omega (arith, simp lengths at (rw (size-parts (c .before .before .args .i) (c .before .before .args .number)) at (c .before .before .pre .1))))

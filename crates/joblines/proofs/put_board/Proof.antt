@@ -1,8 +1,8 @@
--- `housewriter::put_board` meets its contract: what the rest of the buffer took stands at the place. Assumes nothing.
+-- `joblines::put_board` meets its contract: what the rest of the buffer took stands at the place. Assumes nothing.
 use Rattle.text.proofs.Writing.{at-rest}
 use borrow.Author.Needs.{needs}
-use Rattle.housewriter.proofs.put_board.Statement.{statement}
-use Rattle.housewriter.proofs.put_board.Tie as tie
+use Rattle.joblines.proofs.put_board.Statement.{statement}
+use Rattle.joblines.proofs.put_board.Tie as tie
 
 sub-board-line : tie.Need-sub-board-line
 sub-board-line c = search needs

@@ -1,8 +1,8 @@
--- `housewriter::put_block` meets its contract: what the rest of the buffer took stands at the place. Assumes nothing.
+-- `joblines::put_block` meets its contract: what the rest of the buffer took stands at the place. Assumes nothing.
 use Rattle.text.proofs.Writing.{at-rest}
 use borrow.Author.Needs.{needs}
-use Rattle.housewriter.proofs.put_block.Statement.{statement}
-use Rattle.housewriter.proofs.put_block.Tie as tie
+use Rattle.joblines.proofs.put_block.Statement.{statement}
+use Rattle.joblines.proofs.put_block.Tie as tie
 
 sub-block-line : tie.Need-sub-block-line
 sub-block-line c = search needs

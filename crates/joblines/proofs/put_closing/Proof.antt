@@ -1,8 +1,8 @@
--- `housewriter::put_closing` meets its contract: what the rest of the buffer took stands at the place. Assumes nothing.
+-- `joblines::put_closing` meets its contract: what the rest of the buffer took stands at the place. Assumes nothing.
 use Rattle.text.proofs.Writing.{at-rest}
 use borrow.Author.Needs.{needs}
-use Rattle.housewriter.proofs.put_closing.Statement.{statement}
-use Rattle.housewriter.proofs.put_closing.Tie as tie
+use Rattle.joblines.proofs.put_closing.Statement.{statement}
+use Rattle.joblines.proofs.put_closing.Tie as tie
 
 sub-closing-line : tie.Need-sub-closing-line
 sub-closing-line c = search needs

@@ -1,10 +1,10 @@
--- `housewriter::board_line` meets its contract: three writes in a row. Assumes nothing.
+-- `joblines::board_line` meets its contract: three writes in a row. Assumes nothing.
 use native.Mathlib.Omega.{arith}
 use Rattle.text.proofs.Writing.{lengths, kept-at, chain-at, from-start}
-use Rattle.housewriter.proofs.Parts.{opening-parts}
+use Rattle.joblines.proofs.Lines.{opening-parts}
 use borrow.Author.Needs.{needs}
-use Rattle.housewriter.proofs.board_line.Statement.{statement}
-use Rattle.housewriter.proofs.board_line.Tie as tie
+use Rattle.joblines.proofs.board_line.Statement.{statement}
+use Rattle.joblines.proofs.board_line.Tie as tie
 
 slice-aggregate-put-bytes-at : tie.Need-slice-aggregate-put-bytes-at
 slice-aggregate-put-bytes-at c = search needs

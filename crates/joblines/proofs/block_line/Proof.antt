@@ -1,4 +1,4 @@
--- `housewriter::block_line` meets its contract: three writes in a row. Assumes nothing.
+-- `joblines::block_line` meets its contract: three writes in a row. Assumes nothing.
 use Prim.Native.Nat.{ℕ, _+_, _≤_}
 use mathlib.Core.List.{List, [], _∷_, _++_}
 use native.Mathlib.Omega.{arith}
@@ -11,10 +11,10 @@ use Rattle.text.proofs.Writing.{from-start}
 use Rattle.keywords.specs.Keywords.{headText}
 use Rattle.keywords.specs.declared.Vocabulary.the-variants.{Job}
 use Rattle.house.specs.HouseText.{blockLine}
-use Rattle.housewriter.specs.Parts.{ended, twoText}
-use Rattle.housewriter.proofs.Parts.{block-parts}
-use Rattle.housewriter.proofs.block_line.Statement.{statement}
-use Rattle.housewriter.proofs.block_line.Tie as tie
+use Rattle.joblines.specs.Lines.{ended, twoText}
+use Rattle.joblines.proofs.Lines.{block-parts}
+use Rattle.joblines.proofs.block_line.Statement.{statement}
+use Rattle.joblines.proofs.block_line.Tie as tie
 
 abbrev head : tie.Start → List ℕ
 head s = headText Job 4 (s .args .block .track .0)

@@ -1,8 +1,8 @@
--- `housewriter::put_size` meets its contract: what the rest of the buffer took stands at the place. Assumes nothing.
+-- `joblines::put_size` meets its contract: what the rest of the buffer took stands at the place. Assumes nothing.
 use Rattle.text.proofs.Writing.{at-rest}
 use borrow.Author.Needs.{needs}
-use Rattle.housewriter.proofs.put_size.Statement.{statement}
-use Rattle.housewriter.proofs.put_size.Tie as tie
+use Rattle.joblines.proofs.put_size.Statement.{statement}
+use Rattle.joblines.proofs.put_size.Tie as tie
 
 sub-size-line : tie.Need-sub-size-line
 sub-size-line c = search needs

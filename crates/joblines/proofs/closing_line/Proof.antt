@@ -1,7 +1,7 @@
--- `housewriter::closing_line` meets its contract: one write. Assumes nothing.
+-- `joblines::closing_line` meets its contract: one write. Assumes nothing.
 use borrow.Author.Needs.{needs}
-use Rattle.housewriter.proofs.closing_line.Statement.{statement}
-use Rattle.housewriter.proofs.closing_line.Tie as tie
+use Rattle.joblines.proofs.closing_line.Statement.{statement}
+use Rattle.joblines.proofs.closing_line.Tie as tie
 
 slice-aggregate-put-bytes : tie.Need-slice-aggregate-put-bytes
 slice-aggregate-put-bytes c = search needs

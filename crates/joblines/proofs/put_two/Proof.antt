@@ -1,4 +1,4 @@
--- `housewriter::put_two` meets its contract: two writes in a row. Assumes nothing.
+-- `joblines::put_two` meets its contract: two writes in a row. Assumes nothing.
 use Prim.Native.Nat.{ℕ, _+_, _≤_}
 use mathlib.Core.Path.{refl}
 use mathlib.Core.List.{List, _∷_, _++_}
@@ -8,9 +8,9 @@ use denote.Ref.{now}
 use Rattle.text.specs.Digits.{digits}
 use Rattle.text.specs.Runs.{Going}
 use Rattle.text.proofs.Runs.{going-start, going-on, going-room, going-more, last-room, going-last}
-use Rattle.housewriter.specs.Parts.{twoText}
-use Rattle.housewriter.proofs.put_two.Statement.{statement}
-use Rattle.housewriter.proofs.put_two.Tie as tie
+use Rattle.joblines.specs.Lines.{twoText}
+use Rattle.joblines.proofs.put_two.Statement.{statement}
+use Rattle.joblines.proofs.put_two.Tie as tie
 
 abbrev first : tie.Start → List ℕ
 first s = 32 ∷ digits (s .args .a)

@@ -1,8 +1,8 @@
--- `housewriter::put_net` meets its contract: what the rest of the buffer took stands at the place. Assumes nothing.
+-- `joblines::put_net` meets its contract: what the rest of the buffer took stands at the place. Assumes nothing.
 use Rattle.text.proofs.Writing.{at-rest}
 use borrow.Author.Needs.{needs}
-use Rattle.housewriter.proofs.put_net.Statement.{statement}
-use Rattle.housewriter.proofs.put_net.Tie as tie
+use Rattle.joblines.proofs.put_net.Statement.{statement}
+use Rattle.joblines.proofs.put_net.Tie as tie
 
 sub-net-line : tie.Need-sub-net-line
 sub-net-line c = search needs

@@ -1,0 +1,2 @@
+-- Laws of the lines of a job's fixed text.
+pub mod Lines

@@ -1,0 +1,2 @@
+-- The lines of a job's fixed text.
+pub mod Lines

@@ -59,10 +59,10 @@ pub extern "C" fn hankuribo_house(
     ensures one_text { λ r. ⌜ (r ≡ 0 → OfAccepted (λ j. OneText j (take (now (bytes .exit)) (now (out .exit)))) (readJob (now (job .entry)))) ⌝ }
     ensures again { λ r. ⌜ (r ≡ 0 → OfAccepted (λ j. FixedAgain (take (now (bytes .exit)) (now (out .exit)))) (readJob (now (job .entry)))) ⌝ }
 {
-    let answer = housestyle::house(job, out);
-    *line = answers::answer_line(answer);
-    *bytes = answers::answer_bytes(answer);
-    answers::answer_number(answer)
+    let fixed = housestyle::house(job, out);
+    *line = answers::answer_line(fixed);
+    *bytes = answers::answer_bytes(fixed);
+    answers::answer_number(fixed)
 }
 
 // A yes or no as a number.

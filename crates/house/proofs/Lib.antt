@@ -5,3 +5,4 @@ pub mod HouseRead
 pub mod Examples
 pub mod Promised
 pub mod Spacing
+pub mod TakenOut

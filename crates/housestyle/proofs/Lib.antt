@@ -1,2 +1,3 @@
 -- Laws of house's answer.
 pub mod Answering
+pub mod TwoFiles

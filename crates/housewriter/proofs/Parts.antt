@@ -7,6 +7,7 @@ use lib.ListN.{length, getD}
 use lib.Seq.{slice, slice-cons, slice-empty}
 use Rattle.lists.specs.Lists.{Each}
 use Rattle.keywords.specs.Keywords.{boardWord, rowsWord, tracksWord, wordOf}
+use Rattle.linewriter.specs.LineText.{openingText}
 use Rattle.keywords.specs.declared.Vocabulary.the-variants.{Job}
 use Rattle.board.specs.declared.Board.{Board}
 use Rattle.board.specs.declared.Net.{Net}
@@ -22,8 +23,8 @@ use Rattle.blocksort.proofs.Sorting.{key-back, small-blocks}
 use Rattle.joblines.specs.Lines.{ended}
 use Rattle.housewriter.specs.Parts.{topText, netsText, blocksText}
 
-pub top-parts : (board : Board) → topText board ≡ ended (openingLine boardWord) ++ (ended (innerLine (wordOf Job 1) (board .rows ∷ [])) ++ ended (innerLine (wordOf Job 2) (board .tracks ∷ [])))
-unfolding topText wordOf
+pub top-parts : (board : Board) → topText board ≡ openingText Job ++ (ended (innerLine (wordOf Job 1) (board .rows ∷ [])) ++ ended (innerLine (wordOf Job 2) (board .tracks ∷ [])))
+unfolding topText openingLine openingText wordOf
 top-parts board = refl
 
 -- a line more

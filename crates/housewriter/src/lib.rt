@@ -10,13 +10,14 @@ ghost use Rattle.blocksort.specs.Keys.{keyBlock};
 ghost use Rattle.housewriter.specs.Parts.{topText, netsText, blocksText};
 use board::Board;
 use board::StoredJob;
+use keywords::Vocabulary;
 
 // Writes the lines of the board: the first, that of the rows, that of the tracks.
 fn put_top(out: &mut [u8], board: Board) -> usize
     requires { ⌜ length (topText board) ≤ length (now out) ⌝ }
     ensures { λ r. ⌜ WrittenAt 0 (topText board) (now (out .entry)) (now (out .exit)) r ⌝ }
 {
-    let a = joblines::put_board(out, 0);
+    let a = linewriter::put_opening(out, 0, Vocabulary::Job);
     let b = joblines::put_size(out, a, 1, board.rows);
     joblines::put_size(out, b, 2, board.tracks)
 }
@@ -72,5 +73,5 @@ pub fn write_house(job: StoredJob, out: &mut [u8]) -> usize
     let a = put_top(out, board);
     let b = put_nets(out, a, job);
     let c = put_blocks(out, b, job);
-    joblines::put_closing(out, c)
+    linewriter::put_closing(out, c)
 }

@@ -1,18 +1,15 @@
--- Each line of a job's fixed text is the parts that its writer writes. Assumes nothing.
+-- Each inner line of a job's fixed text is the parts that its writer writes. Assumes nothing.
 use Prim.Native.Nat.{ℕ}
 use mathlib.Core.Path.{_≡_, refl, sym, ap, _∙_}
 use mathlib.Core.List.{List, [], _∷_, _++_, append-assoc}
 use Rattle.text.specs.Digits.{digits}
-use Rattle.keywords.specs.Keywords.{boardWord, wordOf, headText}
+use Rattle.keywords.specs.Keywords.{wordOf}
+use Rattle.linewriter.specs.LineText.{headText}
 use Rattle.keywords.specs.declared.Vocabulary.the-variants.{Job}
 use Rattle.board.specs.declared.Net.{Net}
 use Rattle.board.specs.declared.Block.{Block}
-use Rattle.house.specs.HouseText.{spacedThen, openingLine, innerLine, netLine, blockLine}
+use Rattle.house.specs.HouseText.{spacedThen, innerLine, netLine, blockLine}
 use Rattle.joblines.specs.Lines.{ended, twoText}
-
-pub opening-parts : ended (openingLine boardWord) ≡ ((40 ∷ []) ++ wordOf Job 0) ++ (10 ∷ [])
-unfolding openingLine wordOf
-opening-parts = refl
 
 -- numbers and what is behind them, with a byte more
 spaced-ended : (ns rest : List ℕ) → spacedThen ns rest ++ (10 ∷ []) ≡ spacedThen ns (rest ++ (10 ∷ []))

@@ -1,11 +1,11 @@
-// The lines of a job's fixed text, each written into the rest of a lent buffer; a writer is told the place and returns the next one.
+// The inner lines of a job's fixed text, each written into the rest of a lent buffer; a writer is told the place and returns the next one.
 ghost use mathlib.Core.List.{[], _∷_};
 ghost use Prim.Native.Nat.{_+_, _≤_, _<_};
 ghost use lib.ListN.{length};
 ghost use Rattle.text.specs.Written.{Written, WrittenAt};
-ghost use Rattle.keywords.specs.Keywords.{boardWord, wordOf};
+ghost use Rattle.keywords.specs.Keywords.{wordOf};
 ghost use Rattle.keywords.specs.declared.Vocabulary.the-variants.{Job};
-ghost use Rattle.house.specs.HouseText.{openingLine, innerLine, closingLine, netLine, blockLine};
+ghost use Rattle.house.specs.HouseText.{innerLine, netLine, blockLine};
 ghost use Rattle.joblines.specs.Lines.{ended, twoText};
 use board::Block;
 use board::Net;
@@ -22,23 +22,13 @@ fn put_two(out: &mut [u8], at: usize, a: usize, b: usize) -> usize
 
 // The line writers: each writes its line at the start of the rest of the buffer that it is lent, and returns the bytes used.
 
-// Writes the first line, "(board".
-fn board_line(out: &mut [u8]) -> usize
-    requires { ⌜ length (ended (openingLine boardWord)) ≤ length (now out) ⌝ }
-    ensures { λ r. ⌜ Written (ended (openingLine boardWord)) (now (out .entry)) (now (out .exit)) r ⌝ }
-{
-    let a = text::put_bytes_at(out, 0, b"(");
-    let b = keywords::put_word_at(out, a, Vocabulary::Job, 0);
-    text::put_bytes_at(out, b, b"\n")
-}
-
 // Writes a line with one number behind word i of the table.
 fn size_line(out: &mut [u8], i: usize, number: usize) -> usize
     requires { ⌜ i < 5 ⌝ }
     requires { ⌜ length (ended (innerLine (wordOf Job i) (number ∷ []))) ≤ length (now out) ⌝ }
     ensures { λ r. ⌜ Written (ended (innerLine (wordOf Job i) (number ∷ []))) (now (out .entry)) (now (out .exit)) r ⌝ }
 {
-    let a = keywords::put_head(out, 0, Vocabulary::Job, i, number);
+    let a = linewriter::put_head(out, 0, Vocabulary::Job, i, number);
     text::put_bytes_at(out, a, b")\n")
 }
 
@@ -50,7 +40,7 @@ fn net_line(out: &mut [u8], net: Net) -> usize
     let number = net.number;
     let left = net.left.0;
     let right = net.right.0;
-    let a = keywords::put_head(out, 0, Vocabulary::Job, 3, number);
+    let a = linewriter::put_head(out, 0, Vocabulary::Job, 3, number);
     let b = put_two(out, a, left, right);
     let c = put_two(out, b, net.min, net.max);
     text::put_bytes_at(out, c, b")\n")
@@ -64,28 +54,12 @@ fn block_line(out: &mut [u8], block: Block) -> usize
     let track = block.track.0;
     let first = block.first.0;
     let last = block.last.0;
-    let a = keywords::put_head(out, 0, Vocabulary::Job, 4, track);
+    let a = linewriter::put_head(out, 0, Vocabulary::Job, 4, track);
     let b = put_two(out, a, first, last);
     text::put_bytes_at(out, b, b")\n")
 }
 
-// Writes the last line, ")".
-fn closing_line(out: &mut [u8]) -> usize
-    requires { ⌜ length (ended closingLine) ≤ length (now out) ⌝ }
-    ensures { λ r. ⌜ Written (ended closingLine) (now (out .entry)) (now (out .exit)) r ⌝ }
-{
-    text::put_bytes(out, b")\n")
-}
-
 // The same with a place: the rest of the buffer from there on is lent to the line writer. Each returns the next place.
-
-// Writes the first line from a place on.
-pub fn put_board(out: &mut [u8], at: usize) -> usize
-    requires { ⌜ at + length (ended (openingLine boardWord)) ≤ length (now out) ⌝ }
-    ensures { λ r. ⌜ WrittenAt at (ended (openingLine boardWord)) (now (out .entry)) (now (out .exit)) r ⌝ }
-{
-    at + board_line(&mut out[at..])
-}
 
 // Writes a line with one number from a place on.
 pub fn put_size(out: &mut [u8], at: usize, i: usize, number: usize) -> usize
@@ -110,12 +84,4 @@ pub fn put_block(out: &mut [u8], at: usize, block: Block) -> usize
     ensures { λ r. ⌜ WrittenAt at (ended (blockLine block)) (now (out .entry)) (now (out .exit)) r ⌝ }
 {
     at + block_line(&mut out[at..], block)
-}
-
-// Writes the last line from a place on.
-pub fn put_closing(out: &mut [u8], at: usize) -> usize
-    requires { ⌜ at + length (ended closingLine) ≤ length (now out) ⌝ }
-    ensures { λ r. ⌜ WrittenAt at (ended closingLine) (now (out .entry)) (now (out .exit)) r ⌝ }
-{
-    at + closing_line(&mut out[at..])
 }

@@ -1,4 +1,3 @@
 -- The laws of the words and of their tables.
 pub mod Tables
 pub mod Words
-pub mod Heads

@@ -1,10 +1,9 @@
 -- The words of the two formats by their place in their table. Document 01, "Text of a job": five words open a form.
 use mathlib.Core.Bool.{cond}
-use mathlib.Core.List.{List, [], _∷_, _++_}
+use mathlib.Core.List.{List, [], _∷_}
 use Prim.Native.Nat.{ℕ, suc}
 use lib.ListN.{getD}
 use Rattle.text.specs.Bytes.{same}
-use Rattle.text.specs.Digits.{digits}
 use Rattle.keywords.specs.declared.Vocabulary.{Vocabulary}
 use Rattle.keywords.specs.declared.Vocabulary.the-variants.{Job, Layout}
 
@@ -52,10 +51,6 @@ words Layout = layoutWord ∷ trackWord ∷ wireWord ∷ looseWord ∷ []
 -- the word at place i of its table, counted from 0; empty behind the last
 unfoldable pub wordOf : Vocabulary → ℕ → List ℕ
 wordOf v i = getD (words v) i []
-
--- how an inner line begins: " (word number", with the word at place i of its table
-unfoldable pub headText : Vocabulary → ℕ → ℕ → List ℕ
-headText v i n = (32 ∷ 40 ∷ []) ++ (wordOf v i ++ (32 ∷ digits n))
 
 -- the place of the first of these words that is s, where the first of them has place i; or the place after the last
 unfoldable pub findFrom : ℕ → List (List ℕ) → List ℕ → ℕ

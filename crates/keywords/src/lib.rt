@@ -4,7 +4,7 @@ ghost use Prim.Native.Nat.{_+_, _≤_, _<_};
 ghost use lib.ListN.{length, getD};
 ghost use Rattle.text.specs.Bytes.{same};
 ghost use Rattle.text.specs.Written.{Written, WrittenAt};
-ghost use Rattle.keywords.specs.Keywords.{words, wordOf, headText, findWord};
+ghost use Rattle.keywords.specs.Keywords.{words, wordOf, findWord};
 
 // Whose words are meant: those that open a form of a job, or a line of a layout.
 pub enum Vocabulary {
@@ -87,16 +87,6 @@ pub fn put_word_at(out: &mut [u8], at: usize, v: Vocabulary, i: usize) -> usize
     ensures { λ r. ⌜ WrittenAt at (wordOf v i) (now (out .entry)) (now (out .exit)) r ⌝ }
 {
     at + put_word(&mut out[at..], v, i)
-}
-
-// Writes how an inner line begins, " (word number", with word i, from the place `at` on, and returns the next place.
-pub fn put_head(out: &mut [u8], at: usize, v: Vocabulary, i: usize, number: usize) -> usize
-    requires { ⌜ (i < length (words v)) × (at + length (headText v i number) ≤ length (now out)) ⌝ }
-    ensures { λ r. ⌜ WrittenAt at (headText v i number) (now (out .entry)) (now (out .exit)) r ⌝ }
-{
-    let a = text::put_bytes_at(out, at, b" (");
-    let b = put_word_at(out, a, v, i);
-    text::put_spaced(out, b, number)
 }
 
 // Whether s is word i.

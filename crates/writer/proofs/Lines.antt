@@ -4,7 +4,8 @@ use mathlib.Core.Path.{_≡_, refl, ap}
 use mathlib.Core.List.{List, [], _∷_, _++_, append-assoc}
 use Rattle.lists.proofs.Cases.{by-test}
 use Rattle.text.specs.Digits.{digits}
-use Rattle.keywords.specs.Keywords.{wordOf, wireWord, headText}
+use Rattle.keywords.specs.Keywords.{wordOf, wireWord}
+use Rattle.linewriter.specs.LineText.{headText}
 use Rattle.keywords.specs.declared.Vocabulary.the-variants.{Layout}
 use Rattle.board.specs.declared.Board.{Board}
 use Rattle.board.specs.declared.Net.{Net}
@@ -18,14 +19,6 @@ use Rattle.layout.specs.LayoutText.{pointsThen, lineText}
 use Rattle.layout.specs.Drawing.{at, samePoint, distinctFrom, corners, pointsOn, wireOf}
 use Rattle.wirepoints.specs.Points.{pointText, nextText, pathText, pinText, pointsText}
 use Rattle.writer.specs.Lines.{endedLine, wireLine}
-
-pub opening-parts : endedLine opens ≡ ((40 ∷ []) ++ wordOf Layout 0) ++ (10 ∷ [])
-unfolding lineText wordOf
-opening-parts = refl
-
-pub closing-parts : endedLine closes ≡ 41 ∷ 10 ∷ []
-unfolding lineText
-closing-parts = refl
 
 pub track-parts : (t n : ℕ) → endedLine (track t n) ≡ (headText Layout 1 t ++ (32 ∷ digits n)) ++ (41 ∷ 10 ∷ [])
 unfolding lineText headText wordOf

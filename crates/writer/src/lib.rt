@@ -1,9 +1,9 @@
-// The lines of a layout, each written into the rest of a lent buffer; a writer is told the place and returns the next one.
+// The inner lines of a layout, each written into the rest of a lent buffer; a writer is told the place and returns the next one.
 ghost use Prim.Native.Nat.{_+_, _≤_};
 ghost use lib.ListN.{length};
 ghost use Rattle.text.specs.Written.{Written, WrittenAt};
 ghost use Rattle.writer.specs.Lines.{wireLine, Drawable, endedLine};
-ghost use Rattle.layout.specs.Tree.{opens as openingLine, track as trackLine, loose as looseLine, closes as closingLine};
+ghost use Rattle.layout.specs.Tree.{track as trackLine, loose as looseLine};
 use board::Board;
 use board::Net;
 use board::Row;
@@ -28,7 +28,7 @@ pub fn wire_line(
     ensures { λ e. ⌜ Written (wireLine board track net shape top) (now (out .entry)) (now (out .exit)) e ⌝ }
 {
     let number = net.number;
-    let a = keywords::put_head(out, 0, Vocabulary::Layout, 2, number);
+    let a = linewriter::put_head(out, 0, Vocabulary::Layout, 2, number);
     let b = put_points(out, a, board, track, net, shape, top);
     text::put_bytes_at(out, b, b")\n")
 }
@@ -39,7 +39,7 @@ pub fn track_line(out: &mut [u8], track: Track, sum: usize) -> usize
     ensures { λ e. ⌜ Written (endedLine (trackLine (track .0) sum)) (now (out .entry)) (now (out .exit)) e ⌝ }
 {
     let t = track.0;
-    let a = keywords::put_head(out, 0, Vocabulary::Layout, 1, t);
+    let a = linewriter::put_head(out, 0, Vocabulary::Layout, 1, t);
     let b = text::put_spaced(out, a, sum);
     text::put_bytes_at(out, b, b")\n")
 }
@@ -49,26 +49,8 @@ pub fn loose_line(out: &mut [u8], number: usize) -> usize
     requires { ⌜ length (endedLine (looseLine number)) ≤ length (now out) ⌝ }
     ensures { λ e. ⌜ Written (endedLine (looseLine number)) (now (out .entry)) (now (out .exit)) e ⌝ }
 {
-    let a = keywords::put_head(out, 0, Vocabulary::Layout, 3, number);
+    let a = linewriter::put_head(out, 0, Vocabulary::Layout, 3, number);
     text::put_bytes_at(out, a, b")\n")
-}
-
-// Writes the first line, "(layout".
-pub fn opening_line(out: &mut [u8]) -> usize
-    requires { ⌜ length (endedLine openingLine) ≤ length (now out) ⌝ }
-    ensures { λ e. ⌜ Written (endedLine openingLine) (now (out .entry)) (now (out .exit)) e ⌝ }
-{
-    let a = text::put_bytes_at(out, 0, b"(");
-    let b = keywords::put_word_at(out, a, Vocabulary::Layout, 0);
-    text::put_bytes_at(out, b, b"\n")
-}
-
-// Writes the last line, ")".
-pub fn closing_line(out: &mut [u8]) -> usize
-    requires { ⌜ length (endedLine closingLine) ≤ length (now out) ⌝ }
-    ensures { λ e. ⌜ Written (endedLine closingLine) (now (out .entry)) (now (out .exit)) e ⌝ }
-{
-    text::put_bytes(out, b")\n")
 }
 
 // The same with a place: the rest of the buffer from there on is lent to the line writer. Each returns the next place.
@@ -104,20 +86,4 @@ pub fn put_loose(out: &mut [u8], at: usize, number: usize) -> usize
     ensures { λ e. ⌜ WrittenAt at (endedLine (looseLine number)) (now (out .entry)) (now (out .exit)) e ⌝ }
 {
     at + loose_line(&mut out[at..], number)
-}
-
-// Writes the first line from a place on.
-pub fn put_opening(out: &mut [u8], at: usize) -> usize
-    requires { ⌜ at + length (endedLine openingLine) ≤ length (now out) ⌝ }
-    ensures { λ e. ⌜ WrittenAt at (endedLine openingLine) (now (out .entry)) (now (out .exit)) e ⌝ }
-{
-    at + opening_line(&mut out[at..])
-}
-
-// Writes the last line from a place on.
-pub fn put_closing(out: &mut [u8], at: usize) -> usize
-    requires { ⌜ at + length (endedLine closingLine) ≤ length (now out) ⌝ }
-    ensures { λ e. ⌜ WrittenAt at (endedLine closingLine) (now (out .entry)) (now (out .exit)) e ⌝ }
-{
-    at + closing_line(&mut out[at..])
 }

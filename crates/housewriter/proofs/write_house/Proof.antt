@@ -11,9 +11,9 @@ use Rattle.text.proofs.Writing.{from-start}
 use Rattle.housewriter.specs.Parts.{topText, netsText, blocksText}
 use Rattle.board.specs.Stored.{jobOf}
 use Rattle.house.specs.Blocks.{sortBlocks}
-use Rattle.house.specs.HouseText.{closingLine, houseText}
+use Rattle.house.specs.HouseText.{houseText}
 use Rattle.housewriter.proofs.Parts.{house-parts}
-use Rattle.joblines.specs.Lines.{ended}
+use Rattle.linewriter.specs.LineText.{closingText}
 use Rattle.housewriter.proofs.write_house.Statement.{statement}
 use Rattle.housewriter.proofs.write_house.Tie as tie
 
@@ -27,7 +27,7 @@ abbrev blocks : tie.Start → List ℕ
 blocks s = blocksText (sortBlocks (jobOf (s .args .job) .blocks))
 
 abbrev closing : List ℕ
-closing = ended closingLine
+closing = closingText
 
 abbrev whole : tie.Start → List ℕ
 whole s = houseText (jobOf (s .args .job))

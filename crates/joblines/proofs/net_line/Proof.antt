@@ -8,7 +8,7 @@ use denote.Ref.{now}
 use Rattle.text.specs.Runs.{Going}
 use Rattle.text.proofs.Runs.{going-start, going-on, going-room, going-more, last-room, going-last}
 use Rattle.text.proofs.Writing.{from-start}
-use Rattle.keywords.specs.Keywords.{headText}
+use Rattle.linewriter.specs.LineText.{headText}
 use Rattle.keywords.specs.declared.Vocabulary.the-variants.{Job}
 use Rattle.house.specs.HouseText.{netLine}
 use Rattle.joblines.specs.Lines.{ended, twoText}

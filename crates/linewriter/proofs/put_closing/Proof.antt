@@ -1,8 +1,8 @@
--- `writer::put_closing` meets its contract: what the rest of the buffer took stands at the place. Assumes nothing.
+-- `linewriter::put_closing` meets its contract: what the rest of the buffer took stands at the place. Assumes nothing.
 use Rattle.text.proofs.Writing.{at-rest}
 use borrow.Author.Needs.{needs}
-use Rattle.writer.proofs.put_closing.Statement.{statement}
-use Rattle.writer.proofs.put_closing.Tie as tie
+use Rattle.linewriter.proofs.put_closing.Statement.{statement}
+use Rattle.linewriter.proofs.put_closing.Tie as tie
 
 sub-closing-line : tie.Need-sub-closing-line
 sub-closing-line c = search needs

@@ -1,7 +1,7 @@
--- `joblines::closing_line` meets its contract: one write. Assumes nothing.
+-- `linewriter::closing_line` meets its contract: one write. Assumes nothing.
 use borrow.Author.Needs.{needs}
-use Rattle.joblines.proofs.closing_line.Statement.{statement}
-use Rattle.joblines.proofs.closing_line.Tie as tie
+use Rattle.linewriter.proofs.closing_line.Statement.{statement}
+use Rattle.linewriter.proofs.closing_line.Tie as tie
 
 slice-aggregate-put-bytes : tie.Need-slice-aggregate-put-bytes
 slice-aggregate-put-bytes c = search needs

@@ -1,10 +1,10 @@
--- `keywords::put_head` meets its contract: three writes in a row. Assumes nothing.
+-- `linewriter::put_head` meets its contract: three writes in a row. Assumes nothing.
 use native.Mathlib.Omega.{arith}
 use Rattle.text.proofs.Writing.{lengths, kept-at, chain-at}
-use Rattle.keywords.proofs.Heads.{head-parts, head-length}
+use Rattle.linewriter.proofs.Parts.{head-parts, head-length}
 use borrow.Author.Needs.{needs}
-use Rattle.keywords.proofs.put_head.Statement.{statement}
-use Rattle.keywords.proofs.put_head.Tie as tie
+use Rattle.linewriter.proofs.put_head.Statement.{statement}
+use Rattle.linewriter.proofs.put_head.Tie as tie
 
 slice-aggregate-put-bytes-at : tie.Need-slice-aggregate-put-bytes-at
 slice-aggregate-put-bytes-at c = search needs

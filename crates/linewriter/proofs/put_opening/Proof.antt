@@ -1,8 +1,8 @@
--- `writer::put_opening` meets its contract: what the rest of the buffer took stands at the place. Assumes nothing.
+-- `linewriter::put_opening` meets its contract: what the rest of the buffer took stands at the place. Assumes nothing.
 use Rattle.text.proofs.Writing.{at-rest}
 use borrow.Author.Needs.{needs}
-use Rattle.writer.proofs.put_opening.Statement.{statement}
-use Rattle.writer.proofs.put_opening.Tie as tie
+use Rattle.linewriter.proofs.put_opening.Statement.{statement}
+use Rattle.linewriter.proofs.put_opening.Tie as tie
 
 sub-opening-line : tie.Need-sub-opening-line
 sub-opening-line c = search needs

@@ -1,0 +1,2 @@
+-- Laws of what the lines of both formats share.
+pub mod Parts

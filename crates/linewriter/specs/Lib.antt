@@ -1,0 +1,2 @@
+-- What the lines of both formats share.
+pub mod LineText

@@ -1,5 +1,5 @@
-# What boards.sh and layouts.sh share; sourced, not run. Told the folder of the second router and the two files to make, it builds the second
-# router below target/bench/, sets its level and empties the files.
+# What boards.sh, houses.sh and layouts.sh share; sourced, not run. Told the folder of the second router and the two files to make, it builds
+# the second router below target/bench/, sets its level and empties the files.
 #
 # bench/level has the level: the number of the last order (a request after document 01) that is delivered, 0 if none. The second router
 # then behaves as the system after that order. Its check names the first broken line as order 3 judges at every level, as ours does before any order.
@@ -29,4 +29,31 @@ put() {
     fi
     cat "$1" >> "$stdin"
     printf '\377' >> "$stdin"
+}
+
+# adds the job in the file $2, and what the second router's operation $1 (route or house) prints for it, which stays in $work/answer
+add_job() {
+    "$work/second" "$1" < "$2" > "$work/answer"
+    put "$2"
+    cat "$work/answer" >> "$stdout"
+}
+
+# adds $4 generated jobs of the family $2 as add_job does for the operation $1, from the seed $3 on, none above 2,000 bytes
+add_family() {
+    seed=$3
+    made=0
+    while [ "$made" -lt "$4" ]; do
+        "$work/second" gen "$seed" "$2" > "$work/job"
+        seed=$((seed + 1))
+        if [ "$(wc -c < "$work/job")" -gt 2000 ]; then continue; fi
+        add_job "$1" "$work/job"
+        made=$((made + 1))
+    done
+}
+
+# tells how many jobs were added
+tell_jobs() {
+    jobs=$(tr -d -c '\377' < "$stdin" | wc -c)
+    refused=$(grep -c '^(refused ' "$stdout" || true)
+    echo "$jobs jobs, $refused of them refused; $(wc -c < "$stdin") bytes in, $(wc -c < "$stdout") bytes out"
 }

@@ -1,6 +1,7 @@
 #!/bin/bash
-# Routes and checks random texts and holds every answer against the second router's, in one process. The second router was written apart
-# from this code, from the documents and the readings in docs/DECISIONS.md; it runs at the level of bench/level.
+# Routes random texts, checks them and writes them in house style, and holds every answer against the second router's, in one process. The
+# second router was written apart from this code, from the documents and the readings in docs/DECISIONS.md; it runs at the level of
+# bench/level.
 #
 #     bench/fuzz.sh SECOND_ROUTER [FIRST [COUNT]]     the folder of the second router; the first seed and how many (1 and 100,000)
 #

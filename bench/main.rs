@@ -1,16 +1,18 @@
-//! Routing and checking, measured against the second router: same machine, same run, same texts.
+//! Routing, checking and house style, measured against the second router: same machine, same run, same texts.
 //!
 //! Of ours, `read` is `hankuribo::read` (the job alone), `plan` is `hankuribo::plan` (the job and its plan), `route` is `hankuribo::route`
-//! (from the job's text to the layout's) and `check` is `hankuribo::check` (the job's text and the layout's); `second` is the second router's
-//! route or check. A time is processor time, the median of several samples, and those of a line of a table are sampled in turn.
+//! (from the job's text to the layout's), `check` is `hankuribo::check` (the job's text and the layout's) and `house` is `hankuribo::house`
+//! (from the job's text to the fixed one); `second` is the second router's route, check, or reading and fixed text. A time is processor time,
+//! the median of several samples, and those of a line of a table are sampled in turn.
 //!
-//! Where a table splits the time, `planning` is plan less read, `drawing` is route less plan and `judging` is check less read: the median of
-//! the differences within a turn. So the parts need not add up to the whole, and a part that is small beside what it is taken from comes
-//! out rough, even below 0.
+//! Where a table splits the time, `planning` is plan less read, `drawing` is route less plan, `judging` is check less read and `writing` is
+//! house less read: the median of the differences within a turn. So the parts need not add up to the whole, and a part that is small beside
+//! what it is taken from comes out rough, even below 0.
 
 mod growing;
+mod ordered;
 
-use second_router::{check, gen, job, level, route};
+use second_router::{check, gen, house, job, level, route};
 use std::cell::RefCell;
 use std::hint::black_box;
 
@@ -24,6 +26,9 @@ const LEAST_SAMPLE: f64 = 500.0;
 
 /// The largest ratio of our time to the second router's that is aimed at on the family `max`.
 const AIM: f64 = 1.5;
+
+/// The largest ratio of writing the fixed text of a largest job to reading that job that is aimed at.
+const WRITING_AIM: f64 = 1.0;
 
 /// A job, with its place in a table.
 struct Job {
@@ -108,14 +113,28 @@ fn measure_check(text: &[u8], layout: &[u8]) -> Samples<3> {
     ])
 }
 
-/// Our answer for a job is the second router's, byte for byte, and so is the verdict on its layout.
+/// Our read and house, and the second router's reading and fixed text.
+fn measure_house(text: &[u8]) -> Samples<3> {
+    let out = RefCell::new(vec![0; hankuribo::MOST_BYTES]);
+    Samples::take([
+        &|| hankuribo::read(text),
+        &|| hankuribo::house(text, &mut out.borrow_mut()).unwrap_or(0),
+        &|| job::read(text).map_or(0, |job| house::text(&job).len()),
+    ])
+}
+
+/// What a program prints for the answer of an operation that writes a text.
+fn printed(answer: Result<Vec<u8>, hankuribo::Refusal>) -> Vec<u8> {
+    answer.unwrap_or_else(|refusal| format!("{}\n", refusal).into_bytes())
+}
+
+/// Our answers for a job, its layout and its fixed text, are the second router's, byte for byte, and so is the verdict on its layout.
 fn same_answers(text: &[u8]) -> bool {
-    let second = route::route(text).into_bytes();
-    let ours = match hankuribo::route_to_vec(text) {
-        Ok(layout) => layout,
-        Err(refusal) => format!("{}\n", refusal).into_bytes(),
-    };
-    ours == second && format!("{}\n", hankuribo::check(text, &second)) == check::check(text, &second).text()
+    let layout = route::route(text).into_bytes();
+    let fixed = job::read(text).map_or_else(|refusal| refusal.text(), |job| house::text(&job)).into_bytes();
+    printed(hankuribo::route_to_vec(text)) == layout
+        && printed(hankuribo::house_to_vec(text)) == fixed
+        && format!("{}\n", hankuribo::check(text, &layout)) == check::check(text, &layout).text()
 }
 
 /// Rows, nets and tracks of a job.
@@ -186,6 +205,37 @@ fn check_table(jobs: &[Job]) {
     summed_up("check", ratios);
 }
 
+/// Read, house and what house takes beyond read: for the families with blocks, and for the largest job with its blocks in several orders.
+fn house_table(jobs: &[Job], ordered: &[Job]) {
+    println!(
+        "\nhouse, by family and by the order of the blocks\n{:<11}{:>4}{:>6}{:>8}{:>8}{:>11}{:>12}{:>11}{:>11}{:>14}{:>7}",
+        "job", "seed", "nets", "blocks", "bytes", "read us", "writing us", "house us", "second us", "writing/read", "house"
+    );
+    let (mut ratios, mut writing_ratios) = (Vec::new(), Vec::new());
+    for job in jobs.iter().filter(|job| ["max", "blocky"].contains(&job.family)).chain(ordered) {
+        let [nets, blocks, bytes] = job::read(&job.text).map_or([0; 3], |job| [job.nets.len(), job.blocks.len(), house::text(&job).len()]);
+        let samples = measure_house(&job.text);
+        let [read, ours, second] = samples.medians();
+        let writing = samples.less(1, 0);
+        println!(
+            "{:<11}{:>4}{:>6}{:>8}{:>8}{:>11.1}{:>12.1}{:>11.1}{:>11.1}{:>14.2}{:>7.2}",
+            job.family, job.seed, nets, blocks, bytes, read, writing, ours, second, writing / read, ours / second
+        );
+        if job.family == "max" {
+            ratios.push(ours / second);
+        }
+        if job.family != "blocky" {
+            writing_ratios.push(writing / read);
+        }
+    }
+    summed_up("house", ratios);
+    let worst = writing_ratios.iter().cloned().fold(0.0, f64::max);
+    println!(
+        "max and the largest job: writing takes {:.2} times reading (median), {:.2} at most; aimed at: {:.1}",
+        median(writing_ratios), worst, WRITING_AIM
+    );
+}
+
 /// Texts of 64,000 bytes, the most that a job may have: empty lines alone; the largest job, padded with empty lines in front.
 fn long_texts() -> [(&'static str, Vec<u8>); 2] {
     let largest = gen::generate(1, "max").expect("a family");
@@ -203,18 +253,23 @@ fn main() {
         }
     }
     let grown = growing::SIZES.map(growing::job_text);
-    let texts = jobs.iter().map(|job| &job.text).chain(&grown);
+    let ordered = ordered::ORDERS.map(|(name, order)| Job { family: name, seed: 1, text: ordered::job_text(order) });
+    let texts = jobs.iter().chain(&ordered).map(|job| &job.text).chain(&grown);
     for text in texts.clone() {
         if !same_answers(text) {
-            println!("DIFFERS: the answer to this job, or the verdict on its layout\n{}", String::from_utf8_lossy(text));
+            println!("DIFFERS: the layout or the fixed text of this job, or the verdict on its layout\n{}", String::from_utf8_lossy(text));
             std::process::exit(1);
         }
     }
-    println!("{} jobs: the answers are the second router's, byte for byte, and so are the verdicts on its layouts", texts.count());
+    println!(
+        "{} jobs: layouts and fixed texts are the second router's, byte for byte, and so are the verdicts on its layouts",
+        texts.count()
+    );
 
     families_table(&jobs);
     growing_table();
     check_table(&jobs);
+    house_table(&jobs, &ordered);
     println!();
     for (what, text) in long_texts() {
         let [read, second] = Samples::take([&|| hankuribo::read(&text), &|| job::read(&text).is_ok() as usize]).medians();

@@ -1,6 +1,7 @@
 #!/bin/bash
-# Measures routing a job and checking a layout against the second router, on the same texts in one run. The second router was written apart
-# from this code, from the documents and the readings in docs/DECISIONS.md; it runs at the level of bench/level.
+# Measures routing a job, checking a layout and writing a job in house style against the second router, on the same texts in one run. The
+# second router was written apart from this code, from the documents and the readings in docs/DECISIONS.md; it runs at the level of
+# bench/level.
 #
 #     bench/run.sh SECOND_ROUTER     the folder of the second router (its sources stand in src/), or set the variable of this name
 #

@@ -3,8 +3,10 @@
 #
 #     bindings/run.sh
 #
-# Each routes a job and checks the layout: the board of document 01, whose layout is the one that the program `route` must print; an empty
-# job, refused 2 at line 1; and one of 64,001 bytes, refused 1. It needs rt, cc and rustc, and writes below target/bindings/ only.
+# Each writes the fixed text of a job, routes the job and checks the layout: the board of document 01, which is in house style, so that it is
+# its own fixed text, and whose layout is the one that the program `route` must print; a board that is not in house style, whose fixed text
+# is the one that the program `house` must print; an empty job, refused 2 at line 1; and one of 64,001 bytes, refused 1. It needs rt, cc and
+# rustc, and writes below target/bindings/ only.
 set -eu
 cd "$(dirname "$0")/.."
 rt staticlib exports
@@ -15,7 +17,7 @@ rustc -O --edition 2021 --crate-type rlib --crate-name hankuribo -L target/stati
 rustc -O --edition 2021 --extern "hankuribo=$work/libhankuribo.rlib" -L target/staticlib -o "$work/in_rust" bindings/rust/example.rs
 
 cp examples/board.job "$work/board.job"
-{ cat crates/route/stdout; echo "(sound)"; } > "$work/board.out"
+{ cat examples/board.job crates/route/stdout; echo "(sound)"; } > "$work/board.out"
 : > "$work/empty.job"
 echo "(refused 2 1)" > "$work/empty.out"
 head -c 64001 /dev/zero > "$work/long.job"
@@ -24,5 +26,8 @@ for program in in_c in_rust; do
     for case in board empty long; do
         "$work/$program" < "$work/$case.job" | cmp - "$work/$case.out"
     done
-    echo "$program: 3 jobs, as expected"
+    "$work/$program" < crates/house_job/stdin > "$work/spaced.out"
+    head -n "$(wc -l < crates/house_job/stdout)" "$work/spaced.out" | cmp - crates/house_job/stdout
+    tail -n 1 "$work/spaced.out" | grep -q '^(sound)$'
+    echo "$program: 4 jobs, as expected"
 done

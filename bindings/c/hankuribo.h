@@ -1,7 +1,7 @@
-/* Hankuribo, a verified channel router: route a job, check a layout.
+/* Hankuribo, a verified channel router: route a job, check a layout, write a job in house style.
  *
  * `rt staticlib exports` builds target/staticlib/libexports.a, which has these functions; link it with -lexports. They are proved: for
- * every content and length of the texts they end with the answer that document 01 gives. They hold no state, allocate nothing and print
+ * every content and length of the texts they end with the answer that the documents give. They hold no state, allocate nothing and print
  * nothing, so several threads may call them at once. Give a thread 2 MB of stack (less than 1 MB was used when measured).
  *
  * A text is a pointer and a length. What C cannot be asked and the proof relies on: no pointer is NULL, also where the length is 0; so
@@ -17,7 +17,7 @@
 extern "C" {
 #endif
 
-/* The most bytes of a job and of a layout text. Every layout that is routed fits a buffer of this size. */
+/* The most bytes of a job and of a layout text. Every layout that is routed and every fixed text fits a buffer of this size. */
 #define HANKURIBO_MOST_BYTES 64000
 
 /* The numbers of the refusals. On a line the first of 2 to 9 counts. */
@@ -32,7 +32,7 @@ enum hankuribo_refusal {
     HANKURIBO_SAME_ROW = 7,         /* L = R */
     HANKURIBO_NO_LENGTH = 8,        /* no allowed length */
     HANKURIBO_TOO_FEW_ROWS = 9,     /* needed rows above H */
-    HANKURIBO_TOO_SMALL = 10,       /* route: the layout has more bytes than the buffer; line 0 */
+    HANKURIBO_TOO_SMALL = 10,       /* route, house: the text has more bytes than the buffer; line 0 */
     HANKURIBO_LAYOUT_TOO_LONG = 11  /* check: the layout text is above 64,000 bytes; line 0 */
 };
 
@@ -41,6 +41,13 @@ enum hankuribo_refusal {
  *   *bytes  the length of the layout: written (0), or needed (10); 0 where the job is refused
  * A refusal changes no byte of out; otherwise bytes beyond the layout are kept. */
 size_t hankuribo_route(const uint8_t *job, size_t job_length, uint8_t *out, size_t room, size_t *line, size_t *bytes);
+
+/* Writes the one fixed text of a job: the layout's spacing, no leading zeros, nets by number, then blocks by track, A and B. Returns the
+ * number of the refusal, 0 where the text stands in out[0 .. *bytes].
+ *   *line   the line that the refusal names, 0 where it names none
+ *   *bytes  the length of the text: written (0), or needed (10); 0 where the job is refused
+ * A refusal changes no byte of out; otherwise bytes beyond the text are kept. */
+size_t hankuribo_house(const uint8_t *job, size_t job_length, uint8_t *out, size_t room, size_t *line, size_t *bytes);
 
 /* Checks a layout text, whoever drew it, for a job. Returns the number of the refusal, 0 where nothing is refused.
  *   *broken  1 where the layout is broken, otherwise 0

@@ -1,9 +1,10 @@
-//! Hankuribo, a verified channel router: route a job, check a layout.
+//! Hankuribo, a verified channel router: route a job, check a layout, write a job in house style.
 //!
 //! Safe functions over the static library that `rt staticlib exports` builds, target/staticlib/libexports.a. What they call is proved: for
-//! every content and length of the texts it ends with the answer that document 01 gives. What is not proved, and stands here: that a slice is
-//! handed over as its pointer and length, and that a number is given its name. The functions hold no state and allocate nothing but what
-//! `route_to_vec` returns. Give a thread that calls them 2 MB of stack, which is Rust's default (less than 1 MB was used when measured).
+//! every content and length of the texts it ends with the answer that the documents give. What is not proved, and stands here: that a slice
+//! is handed over as its pointer and length, and that a number is given its name. The functions hold no state and allocate nothing but what
+//! `route_to_vec` and `house_to_vec` return. Give a thread that calls them 2 MB of stack, which is Rust's default (less than 1 MB was used
+//! when measured).
 //!
 //! Use this file as a module (`#[path = ".."] mod hankuribo;`) or as a crate (`rustc --crate-type rlib`, or Cargo.toml beside it), and give
 //! the linker the folder of the library, `-L target/staticlib`.
@@ -13,12 +14,13 @@ use std::fmt;
 #[link(name = "exports", kind = "static")]
 extern "C" {
     fn hankuribo_route(job: *const u8, job_length: usize, out: *mut u8, room: usize, line: *mut usize, bytes: *mut usize) -> usize;
+    fn hankuribo_house(job: *const u8, job_length: usize, out: *mut u8, room: usize, line: *mut usize, bytes: *mut usize) -> usize;
     fn hankuribo_check(job: *const u8, job_length: usize, layout: *const u8, layout_length: usize, line: *mut usize, broken: *mut usize) -> usize;
     fn hankuribo_read(job: *const u8, job_length: usize) -> usize;
     fn hankuribo_plan(job: *const u8, job_length: usize) -> usize;
 }
 
-/// The most bytes of a job and of a layout text. Every layout that is routed fits a buffer of this size.
+/// The most bytes of a job and of a layout text. Every layout that is routed and every fixed text fits a buffer of this size.
 pub const MOST_BYTES: usize = 64_000;
 
 /// A numbered refusal; a number in it is the line that it names, but for `TooSmall`.
@@ -42,7 +44,7 @@ pub enum Refusal {
     NoLength(usize),
     /// 9: needed rows above H
     TooFewRows(usize),
-    /// 10, of route: the layout has more bytes than the buffer, so many
+    /// 10, of route and house: the text has more bytes than the buffer, so many
     TooSmall(usize),
     /// 11, of check: the layout text is above 64,000 bytes
     LayoutTooLong,
@@ -132,23 +134,47 @@ impl fmt::Display for Verdict {
     }
 }
 
-/// Routes a job into `out`: the length of the layout, which stands at its start, with the bytes beyond it kept. A refusal changes no byte.
-pub fn route(job: &[u8], out: &mut [u8]) -> Result<usize, Refusal> {
+/// An operation that writes a text of a job into a buffer, as the library has it.
+type Writes = unsafe extern "C" fn(*const u8, usize, *mut u8, usize, *mut usize, *mut usize) -> usize;
+
+/// The length of the text that the operation has written, or its refusal.
+fn written(operation: Writes, job: &[u8], out: &mut [u8]) -> Result<usize, Refusal> {
     let (mut line, mut bytes) = (0, 0);
-    let number = unsafe { hankuribo_route(job.as_ptr(), job.len(), out.as_mut_ptr(), out.len(), &mut line, &mut bytes) };
+    let number = unsafe { operation(job.as_ptr(), job.len(), out.as_mut_ptr(), out.len(), &mut line, &mut bytes) };
     match Refusal::of(number, line, bytes) {
         None => Ok(bytes),
         Some(refusal) => Err(refusal),
     }
 }
 
-/// The layout of a job. It is never refused for the buffer.
-pub fn route_to_vec(job: &[u8]) -> Result<Vec<u8>, Refusal> {
+/// The text of the operation. There is room for every text.
+fn written_to_vec(operation: Writes, job: &[u8]) -> Result<Vec<u8>, Refusal> {
     let mut out = vec![0; MOST_BYTES];
-    let bytes = route(job, &mut out)?;
+    let bytes = written(operation, job, &mut out)?;
     out.truncate(bytes);
     out.shrink_to_fit();
     Ok(out)
+}
+
+/// Routes a job into `out`: the length of the layout, which stands at its start, with the bytes beyond it kept. A refusal changes no byte.
+pub fn route(job: &[u8], out: &mut [u8]) -> Result<usize, Refusal> {
+    written(hankuribo_route, job, out)
+}
+
+/// The layout of a job. It is never refused for the buffer.
+pub fn route_to_vec(job: &[u8]) -> Result<Vec<u8>, Refusal> {
+    written_to_vec(hankuribo_route, job)
+}
+
+/// Writes the one fixed text of a job into `out`: its length; it stands at the start, with the bytes beyond it kept. A refusal changes no
+/// byte.
+pub fn house(job: &[u8], out: &mut [u8]) -> Result<usize, Refusal> {
+    written(hankuribo_house, job, out)
+}
+
+/// The one fixed text of a job. It is never refused for the buffer.
+pub fn house_to_vec(job: &[u8]) -> Result<Vec<u8>, Refusal> {
+    written_to_vec(hankuribo_house, job)
 }
 
 /// Checks a layout text, whoever drew it, for a job.

@@ -45,6 +45,11 @@ passed : (b : Bool) (o : Outcome) (x y : Next) → b ≡ true → x ≡ y → un
 unfolding unless
 passed b o x y e q = rw e q
 
+-- a net between others is one of them
+mem-between : (ns : List Net) (n : Net) (ms : List Net) → List·Memᴰ n (ns ++ (n ∷ ms))
+mem-between [] n ms = List·Memᴰ·head refl
+mem-between (m ∷ ns) n ms = List·Memᴰ·tail (mem-between ns n ms)
+
 -- the number of the last of nets that rise is below that of the next
 last-below : (ns : List Net) (n : Net) (ms : List Net) → EachPair (λ a b. a .number < b .number) (ns ++ (n ∷ ms)) → 1 ≤ n .number → lastNumber 0 ns < n .number
 unfolding lastNumber
@@ -52,19 +57,15 @@ last-below [] n ms r h = omega arith
 last-below (m ∷ ns) n ms r h =
     let l = last-net 0 m ns in
     let a = pair-across (λ a b. a .number < b .number) (m ∷ ns) n ms r in
-    let b = Each-at (λ x. x .number < n .number) (m ∷ ns) (l .last) a (subst (λ xs. List·Memᴰ (l .last) xs) (sym (l .is-last)) (last-mem (l .before) (l .last))) in
+    let b = Each-at (λ x. x .number < n .number) (m ∷ ns) (l .last) a (subst (λ xs. List·Memᴰ (l .last) xs) (sym (l .is-last)) (mem-between (l .before) (l .last) [])) in
     omega (arith, l .has-number)
-  where
-    last-mem : (xs : List Net) (x : Net) → List·Memᴰ x (xs ++ (x ∷ []))
-    last-mem [] x = List·Memᴰ·head refl
-    last-mem (y ∷ xs) x = List·Memᴰ·tail (last-mem xs x)
 
 -- a net of an accepted job, below those before it
 net-added : (k : ℕ) (board : Board) (ns : List Net) (n : Net) (ms : List Net) (bs cs : List Block) → AcceptedJob (jobOf board (ns ++ (n ∷ ms)) bs) →
     addNet k n (jobOf board ns cs) ≡ go (filled (jobOf board (ns ++ (n ∷ [])) cs))
 unfolding addNet
 net-added k board ns n ms bs cs a =
-    let x = a .nets-each n (mid-mem ns) in
+    let x = a .nets-each n (mem-between ns n ms) in
     let few : length ns < 512 = omega (arith, a .nets-count, length-append ns (n ∷ ms)) in
     let lefts = pair-across (λ x y. x .left .0 ≡ y .left .0 → ⊥) ns n ms (a .lefts-differ) in
     let rights = pair-across (λ x y. x .right .0 ≡ y .right .0 → ⊥) ns n ms (a .rights-differ) in
@@ -75,10 +76,6 @@ net-added k board ns n ms bs cs a =
     (passed _ _ _ _ (differ-is (n .left .0) (n .right .0) .1 (x .ends-differ))
     (passed _ _ _ _ (length-is board n .1 (x .some-shape, x .some-length))
     (passed _ _ _ _ (le-leb (needed board n) (board .rows) (x .fits-board)) refl))))))
-  where
-    mid-mem : (xs : List Net) → List·Memᴰ n (xs ++ (n ∷ ms))
-    mid-mem [] = List·Memᴰ·head refl
-    mid-mem (y ∷ xs) = List·Memᴰ·tail (mid-mem xs)
 
 block-added : (k : ℕ) (board : Board) (ns : List Net) (bs : List Block) (b : Block) → BlockInRange board b → length bs < 256 →
     addBlock k b (jobOf board ns bs) ≡ go (filled (jobOf board ns (bs ++ (b ∷ []))))
@@ -98,15 +95,11 @@ nets-read : (k : ℕ) (board : Board) (ns ms : List Net) (bs : List Block) (rest
 unfolding readFrom step follow atFilled
 nets-read k board ns [] bs rest a = let e : k + 0 ≡ k = omega arith in rw (e, append-nil ns)
 nets-read k board ns (m ∷ ms) bs rest a =
-    let x = a .nets-each m (mid-mem ns) in
+    let x = a .nets-each m (mem-between ns m ms) in
     let e : suc k + length ms ≡ k + suc (length ms) = omega arith in
     let q = append-assoc ns (m ∷ []) ms in
     rw (net-form m (net-small board m (a .board-range) (x .in-range)), net-added k board ns m ms bs [] a)
     (nets-read (suc k) board (ns ++ (m ∷ [])) ms bs rest (rw q a) ∙ (rw (e, q)))
-  where
-    mid-mem : (xs : List Net) → List·Memᴰ m (xs ++ (m ∷ ms))
-    mid-mem [] = List·Memᴰ·head refl
-    mid-mem (y ∷ xs) = List·Memᴰ·tail (mid-mem xs)
 
 blocks-read : (k : ℕ) (board : Board) (ns : List Net) (bs cs : List Block) (rest : List (List ℕ)) → BoardInRange board → Each (BlockInRange board) cs → length bs + length cs ≤ 256 →
     readFrom k (filled (jobOf board ns bs)) (map blockLine cs ++ rest) ≡ readFrom (k + length cs) (filled (jobOf board ns (bs ++ cs))) rest

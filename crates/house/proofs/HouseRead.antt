@@ -2,12 +2,10 @@
 -- agree in board and nets and hold the same blocks equally often. Assumes nothing.
 use Prim.Native.Nat.{ℕ, suc, _+_, _*_, _≤_, _<_}
 use mathlib.Core.Path.{_≡_, refl, sym, ap, subst, _∙_}
-use mathlib.Core.Logic.{_↔_, ⊎-elim}
-use mathlib.Core.Bool.{Bool, true, false, not, _&&_}
-use mathlib.Core.List.{List, [], _∷_, _++_, map, append-assoc, append-nil, List·Memᴰ, List·Memᴰ·head, List·Memᴰ·tail, List·Memᴰ·cases-cons}
+use mathlib.Core.Logic.{_↔_}
+use mathlib.Core.Bool.{Bool, true}
+use mathlib.Core.List.{List, [], _∷_, _++_, map, append-assoc, append-nil, List·Memᴰ, List·Memᴰ·head, List·Memᴰ·tail}
 use native.Mathlib.Omega.{arith}
-use native.Mathlib.Numerals.{add-one}
-use lib.Dec.{leb, ltb, eqb}
 use lib.ListN.{length, length-append, length-map}
 use borrow.Author.Tests.{le-leb, lt-ltb}
 use Rattle.lists.specs.Lists.{Each, EachPair, allOf}
@@ -21,14 +19,13 @@ use Rattle.keywords.specs.Keywords.{boardWord, rowsWord, tracksWord, netWord, b
 use Rattle.board.specs.declared.Board.{Board}
 use Rattle.board.specs.declared.Net.{Net}
 use Rattle.board.specs.declared.Block.{Block}
-use Rattle.board.specs.Length.{lengthOf, shortest, needed}
+use Rattle.board.specs.Length.{needed}
 use Rattle.board.specs.Job.{Job}
-use Rattle.board.specs.Accepted.{BoardInRange, NetInRange, BlockInRange, AcceptedNet, AcceptedJob}
-use Rattle.jobfile.specs.declared.Form.{Form}
+use Rattle.board.specs.Accepted.{BoardInRange, NetInRange, BlockInRange, AcceptedJob}
 use Rattle.jobfile.specs.declared.Form.the-variants as Is
 use Rattle.jobfile.specs.declared.Outcome.{Outcome}
 use Rattle.jobfile.specs.Forms.{noWord, ifLast, formAfter, formOpened, formOf, readForm}
-use Rattle.jobfile.specs.Read.{State, start, opened, sized, filled, closed, Next, go, stop, unless, atStart, atOpened, atSized, atFilled, within, boardOf, emptyJob, withNet, withBlock, netInRange, blockInRange, lastNumber, pinsFree, addNet, addBlock, step, Read, accepted, refused, ended, follow, readFrom, readJob}
+use Rattle.jobfile.specs.Read.{start, filled, Next, go, unless, atStart, atOpened, atSized, atFilled, boardOf, emptyJob, lastNumber, pinsFree, addNet, addBlock, step, accepted, ended, follow, readFrom, readJob}
 use Rattle.jobfile.proofs.Tests.{within-is, differ-is, net-range-is, block-range-is, last-net, free-is, length-is}
 use Rattle.house.specs.Blocks.{blockNumbers, sortBlocks, EquallyOften}
 use Rattle.house.specs.HouseText.{spacedThen, openingLine, innerLine, closingLine, netNumbers, netLine, blockLine, houseLines, endedLines, houseText, houseJob, SameJob}

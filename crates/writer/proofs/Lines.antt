@@ -14,7 +14,7 @@ use Rattle.board.specs.declared.Shape.{Shape}
 use Rattle.board.specs.declared.Track.{Track}
 use Rattle.board.specs.Placement.{placementAt}
 use Rattle.layout.specs.declared.Point.{Point}
-use Rattle.layout.specs.Tree.{opens, track, loose, closes}
+use Rattle.layout.specs.Tree.{track, loose}
 use Rattle.layout.specs.LayoutText.{pointsThen, lineText}
 use Rattle.layout.specs.Drawing.{at, samePoint, distinctFrom, corners, pointsOn, wireOf}
 use Rattle.wirepoints.specs.Points.{pointText, nextText, pathText, pinText, pointsText}

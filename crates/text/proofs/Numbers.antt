@@ -12,7 +12,7 @@ use lib.Dec.{leb}
 use borrow.Author.Tests.{lt-ltb, le-ltb, le-leb, leb-true}
 use Rattle.lists.specs.Lists.{allOf}
 use Rattle.lists.proofs.Cases.{and-split}
-use Rattle.text.specs.Digits.{digitsIn, digits, isDigit, valueFrom, number}
+use Rattle.text.specs.Digits.{digitsIn, digits, lead, isDigit, valueFrom, number}
 use Rattle.lists.proofs.Joins.{allOf-append}
 use Rattle.text.proofs.Bytes.{}
 
@@ -143,3 +143,35 @@ digits-value b w h a =
     let d : 48 + (b - 48) ≡ b = omega arith in
     let z : 0 * 10 + (b - 48) ≡ b - 48 = omega arith in
     rw z (more-digits (b - 48) w (omega arith) (p .1) ∙ (rw (digits-small (b - 48) (omega arith), d)))
+
+-- the start of a number is the digits of m, or nothing if m is 0: the start of a tenth and one more digit
+
+unfoldable pub start : ℕ → List ℕ
+start zero = []
+start (suc m) = digits (suc m)
+
+start-some : (m : ℕ) → 1 ≤ m → start m ≡ digits m
+unfolding start
+start-some zero h = absurd (omega arith)
+start-some (suc m) h = refl
+
+pub start-last : (n : ℕ) → start (n / 10) ++ ((48 + n % 10) ∷ []) ≡ digits n
+unfolding start
+start-last n =
+    elim (decLt n 10) [
+      | yes h ↦
+          let e : n / 10 ≡ 0 = omega arith in
+          let d : n % 10 ≡ n = omega arith in
+          rw (e, d, digits-small n h)
+      | no h ↦ rw (start-some (n / 10) (omega arith), digits-large n (omega arith))
+    ]
+
+pub lead-some : (n : ℕ) → 1 ≤ n → lead n ≡ (48 + n % 10) ∷ []
+unfolding lead
+lead-some zero h = absurd (omega arith)
+lead-some (suc m) h = refl
+
+pub start-lead : (m : ℕ) → start (m / 10) ++ lead m ≡ start m
+unfolding lead start
+start-lead zero = refl
+start-lead (suc m) = start-last (suc m)

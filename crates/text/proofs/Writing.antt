@@ -5,12 +5,12 @@ use Prim.Native.Nat.{ℕ, _+_, _-_, _/_, _%_, _≤_, _<_}
 use native.Mathlib.Omega.{arith}
 use native.Mathlib.Numerals.{add-one}
 use native.Mathlib.Nat.{add-assoc}
-use lib.ListN.{length, getD, take, drop, set, length-append, length-take, length-drop, length-set, drop-of-length-le}
+use lib.ListN.{length, getD, take, drop, set, length-append, length-take, length-drop, length-set, drop-of-length-le, take-append-drop}
 use lib.Seq.{take-all, take-suc, set-split, length-take-le, take-append-add, drop-append-add, drop-cons, set-append-seam, append-snoc, take-append-seam, drop-append-seam, drop-drop}
 use borrow.Rule.Slice.PartMut.{midOf, putMid}
-use Rattle.text.specs.Digits.{digits}
+use Rattle.text.specs.Digits.{digits, lead}
 use Rattle.text.specs.Written.{over, overAt, Written, WrittenAt}
-use Rattle.text.proofs.Numbers.{digits-small, digits-large}
+use Rattle.text.proofs.Numbers.{start, start-last, start-lead, lead-some, digits-large}
 
 -- the length of a list that is put together from parts: simp lengths (omega arith)
 pub ruleset lengths = (length-append, length-take, length-drop, length-set)
@@ -107,20 +107,39 @@ chain-at {at} {a} {b} {s} {t} {u} {r} {k} h v w =
 pub byte-at : (at : ℕ) (s : List ℕ) (d : ℕ) → at < length s → WrittenAt at (d ∷ []) s (set s at d) (at + 1)
 byte-at at s d h = record { next = refl; bytes = at-byte at s d h }
 
+-- no byte stored is a text of none
+pub none-at : (at : ℕ) (s : List ℕ) → WrittenAt at [] s s at
+none-at at s = record { next = omega arith; bytes = sym (take-append-drop at s) }
+
 -- what stands from place 0 on stands at the start
 pub from-start : {w s t : List ℕ} {r : ℕ} → WrittenAt 0 w s t r → Written w s t r
 from-start v = record { used = omega (arith, v .next); bytes = v .bytes }
 
--- A number: one digit; the digits of a tenth, and one more
+-- A number: the start of its tenth, and one digit more
 
-pub first-digit : (n : ℕ) (s : List ℕ) → n < 10 → 1 ≤ length s → Written (digits n) s (set s 0 (48 + n)) 1
-first-digit n [] h k = absurd (omega arith)
-first-digit n (x ∷ s) h k = rw (digits-small n h) (record { used = refl; bytes = refl })
+pub lead-first : (m : ℕ) {s t : List ℕ} {r : ℕ} → m < 10 → WrittenAt 0 (lead m) s t r → Written (start m) s t r
+unfolding start
+lead-first m h w = let e : m / 10 ≡ 0 = omega arith in rw (← start-lead m, e) (from-start w)
+
+pub lead-next : (m : ℕ) {s t u : List ℕ} {k r : ℕ} → Written (start (m / 10)) s t k → WrittenAt k (lead m) t u r → Written (start m) s u r
+lead-next m v w = rw (start-lead m) at (chain v w)
+
+pub last-digit : (n : ℕ) {s t : List ℕ} {k : ℕ} → k < length t → Written (start (n / 10)) s t k → Written (digits n) s (set t k (48 + n % 10)) (k + 1)
+last-digit n {s} {t} {k} h v = rw (start-last n) at (chain v (byte-at k t (48 + n % 10) h))
+
+pub lead-more : (n : ℕ) {s t u : List ℕ} {k r : ℕ} → 10 ≤ n → Written (digits (n / 10)) s t k → WrittenAt k (lead n) t u r → Written (digits n) s u r
+lead-more n h v w = rw (digits-large n h) (chain v (rw (lead-some n (omega arith)) at w))
 
 pub tenth-fits : (n : ℕ) (s : List ℕ) → 10 ≤ n → length (digits n) ≤ length s → length (digits (n / 10)) < length s
 tenth-fits n s h r = omega (arith, ap length (digits-large n h), length-append (digits (n / 10)) ((48 + n % 10) ∷ []))
 
-pub next-digit : (n : ℕ) (s m : List ℕ) (k : ℕ) → 10 ≤ n → length (digits n) ≤ length s → Written (digits (n / 10)) s m k → Written (digits n) s (set m k (48 + n % 10)) (k + 1)
-next-digit n s m k h r w =
-    rw (w .used, w .bytes, digits-large n h)
-    (record { used = sym (length-append (digits (n / 10)) ((48 + n % 10) ∷ [])); bytes = over-byte (digits (n / 10)) s (48 + n % 10) (tenth-fits n s h r) })
+-- there is room for the next digit
+
+pub start-fits : (n : ℕ) (s : List ℕ) → length (digits n) ≤ length s → length (start (n / 10)) < length s
+start-fits n s r = omega (arith, ap length (start-last n), length-append (start (n / 10)) ((48 + n % 10) ∷ []))
+
+pub start-grows : (m : ℕ) → length (start (m / 10)) ≤ length (start m)
+start-grows m = omega (arith, ap length (start-lead m), length-append (start (m / 10)) (lead m))
+
+pub room : {w s t : List ℕ} {r : ℕ} → Written w s t r → length w < length s → r < length t
+room v h = omega (arith, v .used, kept v (omega arith))

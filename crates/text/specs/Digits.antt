@@ -18,6 +18,11 @@ digitsIn (suc k) n = let more = digitsIn k (n / 10) ++ ((48 + n % 10) ∷ []) in
 unfoldable pub digits : ℕ → List ℕ
 digits n = digitsIn n n
 
+-- the last digit of n, or nothing if n is 0, so that no zero leads a number
+unfoldable pub lead : ℕ → List ℕ
+lead zero = []
+lead (suc m) = (48 + suc m % 10) ∷ []
+
 -- a decimal digit, byte 48 to 57
 abbrev pub isDigit : ℕ → Bool
 isDigit b = leb 48 b && leb b 57

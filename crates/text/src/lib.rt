@@ -1,9 +1,9 @@
 // Texts as bytes: decimal numbers and runs of bytes, written into a lent part of a buffer and read from a part of a text.
 ghost use mathlib.Core.Path.{_≡_};
 ghost use mathlib.Core.List.{_∷_};
-ghost use Prim.Native.Nat.{_+_, _≤_};
+ghost use Prim.Native.Nat.{_+_, _≤_, _<_};
 ghost use lib.ListN.{length};
-ghost use Rattle.text.specs.Digits.{digits, number, asNumber};
+ghost use Rattle.text.specs.Digits.{digits, lead, number, asNumber};
 ghost use Rattle.text.specs.Written.{Written, WrittenAt};
 
 // What a word says as a number: its value, or that it is none.
@@ -33,19 +33,43 @@ pub fn put_bytes_at(out: &mut [u8], at: usize, text: &[u8]) -> usize
     at + put_bytes(&mut out[at..], text)
 }
 
-// Writes the decimal digits of n at the start of out, and returns how many they are.
+// Writes the last digit of n, nothing if n is 0, at the place `at`, and returns the next place.
+fn put_lead(out: &mut [u8], at: usize, n: usize) -> usize
+    requires { ⌜ at < length (now out) ⌝ }
+    ensures { λ r. ⌜ WrittenAt at (lead n) (now (out .entry)) (now (out .exit)) r ⌝ }
+{
+    if n == 0 {
+        return at;
+    }
+    out[at] = 48 + (n % 10) as u8;
+    at + 1
+}
+
+// Writes the digits of a number below 10,000 at the start of out, and returns how many they are.
+fn put_below_10000(out: &mut [u8], n: usize) -> usize
+    requires { ⌜ n < 10000 ⌝ }
+    requires { ⌜ length (digits n) ≤ length (now out) ⌝ }
+    ensures { λ r. ⌜ Written (digits n) (now (out .entry)) (now (out .exit)) r ⌝ }
+{
+    let tenth = n / 10;
+    let hundredth = tenth / 10;
+    let a = put_lead(out, 0, hundredth / 10);
+    let b = put_lead(out, a, hundredth);
+    let c = put_lead(out, b, tenth);
+    out[c] = 48 + (n % 10) as u8;
+    c + 1
+}
+
+// Writes the decimal digits of n at the start of out, and returns how many they are. Up to four digits there is no recursion.
 pub fn put_number(out: &mut [u8], n: usize) -> usize
     requires { ⌜ length (digits n) ≤ length (now out) ⌝ }
     ensures { λ r. ⌜ Written (digits n) (now (out .entry)) (now (out .exit)) r ⌝ }
 {
-    if n < 10 {
-        out[0] = 48 + n as u8;
-        1
-    } else {
-        let k = put_number(out, n / 10);
-        out[k] = 48 + (n % 10) as u8;
-        k + 1
+    if n < 10000 {
+        return put_below_10000(out, n);
     }
+    let k = put_number(out, n / 10);
+    put_lead(out, k, n)
 }
 
 // Writes the digits of n from the place `at` on, into the rest of out, and returns the next place.

@@ -1,5 +1,5 @@
 #!/bin/bash
-# Routes random texts, checks them and writes them in house style, and holds every answer against the second router's, in one process. The
+# Routes random jobs, checks layouts and writes jobs in house style, and holds every answer against the second router's, in one process. The
 # second router was written apart from this code, from the documents and the readings in docs/DECISIONS.md; it runs at the level of
 # bench/level.
 #

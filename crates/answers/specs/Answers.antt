@@ -34,6 +34,8 @@ unfoldable pub documentValues : (Job → List ℕ) → Read → ℕ → AnswerVa
 documentValues text (refused o) room = record { number = outcomeValues o .number; line = outcomeValues o .line; bytes = 0 }
 documentValues text (accepted job) room = let n = length (text job) in record { number = cond (leb n room) 0 10; line = 0; bytes = n }
 
+-- (that the three tests of the room, here and below, are one is what the clauses `values` and `right` of an operation show)
+
 -- the answer for the text t of an accepted job and the length of the buffer: 10 if t has more bytes than the buffer, otherwise its length
 unfoldable pub answerFor : List ℕ → ℕ → TextAnswer
 answerFor t room = let n = length t in cond (leb n room) (Written n) (TooSmall n)
@@ -54,7 +56,7 @@ bufferAfter text (accepted job) before = bufferFor (text job) before
 
 -- the answer is for the faults of the job file and the room, which is the length of the buffer: a refusal of read's names the first fault; any
 -- other answer is for a file without a fault, and its length is at most 64,000: at most the room where it is written, above the room where
--- it is needed, and then it is the length of such a text as the operation writes for the job
+-- it is needed, and then `Length` has it: `Length j n` says that 10 may name n for the job j
 abbrev pub RightFor : (Job → ℕ → Type 0) → List ℕ → ℕ → TextAnswer → Type 0
 RightFor Length file room (Refused o) = FirstFault file o
 RightFor Length file room (TooSmall n) = ((o : Outcome) → Fault file o → ⊥) × (room < n) × (n ≤ 64000) × OfAccepted (λ j. Length j n) (readJob file)

@@ -35,8 +35,8 @@ use Rattle.house.proofs.HouseLines.{inWord, rows-form, tracks-form, net
 -- ---- one line more
 
 -- a job by its parts
-abbrev jobOf : Board → List Net → List Block → Job
-jobOf board ns bs = record { board = board; nets = ns; blocks = bs }
+abbrev jobWith : Board → List Net → List Block → Job
+jobWith board ns bs = record { board = board; nets = ns; blocks = bs }
 
 passed : (b : Bool) (o : Outcome) (x y : Next) → b ≡ true → x ≡ y → unless b o x ≡ y
 unfolding unless
@@ -58,8 +58,8 @@ last-below (m ∷ ns) n ms r h =
     omega (arith, l .has-number)
 
 -- a net of an accepted job, below those before it
-net-added : (k : ℕ) (board : Board) (ns : List Net) (n : Net) (ms : List Net) (bs cs : List Block) → AcceptedJob (jobOf board (ns ++ (n ∷ ms)) bs) →
-    addNet k n (jobOf board ns cs) ≡ go (filled (jobOf board (ns ++ (n ∷ [])) cs))
+net-added : (k : ℕ) (board : Board) (ns : List Net) (n : Net) (ms : List Net) (bs cs : List Block) → AcceptedJob (jobWith board (ns ++ (n ∷ ms)) bs) →
+    addNet k n (jobWith board ns cs) ≡ go (filled (jobWith board (ns ++ (n ∷ [])) cs))
 unfolding addNet
 net-added k board ns n ms bs cs a =
     let x = a .nets-each n (mem-between ns n ms) in
@@ -75,7 +75,7 @@ net-added k board ns n ms bs cs a =
     (passed _ _ _ _ (le-leb (needed board n) (board .rows) (x .fits-board)) refl))))))
 
 block-added : (k : ℕ) (board : Board) (ns : List Net) (bs : List Block) (b : Block) → BlockInRange board b → length bs < 256 →
-    addBlock k b (jobOf board ns bs) ≡ go (filled (jobOf board ns (bs ++ (b ∷ []))))
+    addBlock k b (jobWith board ns bs) ≡ go (filled (jobWith board ns (bs ++ (b ∷ []))))
 unfolding addBlock
 block-added k board ns bs b r few = passed _ _ _ _ (block-range-is board b .1 r) (passed _ _ _ _ (lt-ltb (length bs) 256 few) refl)
 
@@ -87,8 +87,8 @@ net-small board n b r = (omega arith, (omega arith, (omega arith, (omega arith, 
 block-small : (board : Board) (b : Block) → BoardInRange board → BlockInRange board b → Each (λ x. x < 100000) (blockNumbers b)
 block-small board b c r = (omega arith, (omega arith, (omega arith, tt)))
 
-nets-read : (k : ℕ) (board : Board) (ns ms : List Net) (bs : List Block) (rest : List (List ℕ)) → AcceptedJob (jobOf board (ns ++ ms) bs) →
-    readFrom k (filled (jobOf board ns [])) (map netLine ms ++ rest) ≡ readFrom (k + length ms) (filled (jobOf board (ns ++ ms) [])) rest
+nets-read : (k : ℕ) (board : Board) (ns ms : List Net) (bs : List Block) (rest : List (List ℕ)) → AcceptedJob (jobWith board (ns ++ ms) bs) →
+    readFrom k (filled (jobWith board ns [])) (map netLine ms ++ rest) ≡ readFrom (k + length ms) (filled (jobWith board (ns ++ ms) [])) rest
 unfolding readFrom step follow atFilled
 nets-read k board ns [] bs rest a = let e : k + 0 ≡ k = omega arith in rw (e, append-nil ns)
 nets-read k board ns (m ∷ ms) bs rest a =
@@ -99,7 +99,7 @@ nets-read k board ns (m ∷ ms) bs rest a =
     (nets-read (suc k) board (ns ++ (m ∷ [])) ms bs rest (rw q a) ∙ (rw (e, q)))
 
 blocks-read : (k : ℕ) (board : Board) (ns : List Net) (bs cs : List Block) (rest : List (List ℕ)) → BoardInRange board → Each (BlockInRange board) cs → length bs + length cs ≤ 256 →
-    readFrom k (filled (jobOf board ns bs)) (map blockLine cs ++ rest) ≡ readFrom (k + length cs) (filled (jobOf board ns (bs ++ cs))) rest
+    readFrom k (filled (jobWith board ns bs)) (map blockLine cs ++ rest) ≡ readFrom (k + length cs) (filled (jobWith board ns (bs ++ cs))) rest
 unfolding readFrom step follow atFilled
 blocks-read k board ns bs [] rest r a h = let e : k + 0 ≡ k = omega arith in rw (e, append-nil bs)
 blocks-read k board ns bs (c ∷ cs) rest r a h =
@@ -164,6 +164,19 @@ close-read : (n : ℕ) (job : Job) → readFrom n (filled job) (closingLine ∷ 
 unfolding readFrom step follow atFilled ended
 close-read n job = rw close-form
 
+-- the text has a line for each net and block, the first three and the last, and no other
+pub lines-count : (job : Job) → length (houseLines job) ≡ 4 + length (job .nets) + length (job .blocks)
+unfolding houseLines
+lines-count job =
+    omega (
+      arith,
+      length-append (map netLine (job .nets)) (map blockLine (sortBlocks (job .blocks)) ++ (closingLine ∷ [])),
+      length-append (map blockLine (sortBlocks (job .blocks))) (closingLine ∷ []),
+      length-map (job .nets) netLine,
+      length-map (sortBlocks (job .blocks)) blockLine,
+      sorted-length (job .blocks),
+    )
+
 module _ (job : Job) (a : AcceptedJob job) where
   blocks-good : Each (BlockInRange (job .board)) (sortBlocks (job .blocks))
   blocks-good = sorted-each (BlockInRange (job .board)) (job .blocks) (Each-each (job .blocks) (a .blocks-each))
@@ -188,24 +201,10 @@ module _ (job : Job) (a : AcceptedJob job) where
         ),
       )
 
-  lines-count : length (houseLines job) ≤ 772
-  unfolding houseLines
-  lines-count =
-      omega (
-        arith,
-        length-append (map netLine (job .nets)) (map blockLine (sortBlocks (job .blocks)) ++ (closingLine ∷ [])),
-        length-append (map blockLine (sortBlocks (job .blocks))) (closingLine ∷ []),
-        length-map (job .nets) netLine,
-        length-map (sortBlocks (job .blocks)) blockLine,
-        sorted-length (job .blocks),
-        a .nets-count,
-        a .blocks-count,
-      )
-
   -- the fixed text is short
   pub house-length : length (houseText job) ≤ 27792
   unfolding houseText
-  house-length = omega (arith, text-length (houseLines job) lines-short, lines-count)
+  house-length = omega (arith, text-length (houseLines job) lines-short, lines-count job, a .nets-count, a .blocks-count)
 
   house-lines : lines (houseText job) ≡ houseLines job
   unfolding houseText
@@ -224,13 +223,13 @@ module _ (job : Job) (a : AcceptedJob job) where
       rw (le-leb (length (houseText job)) 64000 (omega (arith, house-length)), house-lines)
       (h ∙ n ∙ c ∙ close-read (4 + length (job .nets) + length (sortBlocks (job .blocks))) (houseJob job))
 
-  -- these are the same blocks, each as often as before
-  pub house-blocks : EquallyOften (houseJob job .blocks) (job .blocks)
-  house-blocks = sorted-times (job .blocks)
-
 -- and so at most 64,000 bytes long
 pub house-short : (job : Job) → AcceptedJob job → length (houseText job) ≤ 64000
 house-short job a = omega (arith, house-length job a)
+
+-- a text is read as one job
+pub read-one : {x y : Job} → accepted x ≡ accepted y → x ≡ y
+read-one e = cc
 
 -- two accepted jobs have the same text exactly where they agree in board and nets and hold the same blocks equally often
 pub one-text : (j k : Job) → AcceptedJob j → AcceptedJob k → (houseText j ≡ houseText k) ↔ SameJob j k
@@ -245,6 +244,3 @@ one-text j k a b = (
       },
   λ s. rw (s .board-same, s .nets-same, sort-same (j .blocks) (k .blocks) (s .blocks-same)),
 )
-  where
-    read-one : {x y : Job} → accepted x ≡ accepted y → x ≡ y
-    read-one e = cc

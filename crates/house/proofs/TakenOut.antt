@@ -1,5 +1,4 @@
--- What the promises of the fixed text leave open: nothing that the order asks. One job alone can be read back, and each other clause says what
--- its words say. Assumes nothing.
+-- What the promises of the fixed text say: one job alone can be read back, and each other clause says what its words say. Assumes nothing.
 use Prim.Native.Nat.{ℕ, _<_}
 use mathlib.Core.Path.{_≡_, sym, ap, _∙_}
 use mathlib.Core.List.{List, List·Permᴰ}
@@ -12,9 +11,7 @@ use Rattle.house.specs.Blocks.{sortBlocks}
 use Rattle.house.specs.HouseText.{houseText, houseJob, SameJob}
 use Rattle.house.specs.Promises.{IsFixed, FixedLength, ReadsBack, OneText, FixedAgain}
 use Rattle.house.proofs.BlockOrder.{one-order, sorted, sorted-times}
-
-read-one : {x y : Job} → accepted x ≡ accepted y → x ≡ y
-read-one e = cc
+use Rattle.house.proofs.HouseRead.{read-one}
 
 module _ (job : Job) (text : List ℕ) where
   module _ (r : ReadsBack job text) where

@@ -10,7 +10,7 @@ use Rattle.printing.specs.Printed.{printedText}
 use Rattle.files.specs.FileTexts.{textOf}
 use Rattle.jobinput.specs.declared.PrintedInput.{PrintedInput}
 
--- the text that is written for a job, or the refusal, of the bytes that were read
+-- what is printed is the text of the job that was read, or its refusal
 abbrev pub InputPrinted : (Job → List ℕ) → PrintedInput → Type 0
 InputPrinted text r = Written (printedText text (readJob (textOf (r .job)))) (replicate 64000 0) (r .printed .bytes) (r .printed .used)
 

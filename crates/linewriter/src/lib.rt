@@ -6,7 +6,7 @@ ghost use Rattle.keywords.specs.Keywords.{words};
 ghost use Rattle.linewriter.specs.LineText.{headText, openingText, closingText};
 use keywords::Vocabulary;
 
-// Writes how an inner line begins, " (word number", with word i, from the place `at` on, and returns the next place.
+// Writes how an inner line begins, " (word number", with word i of the table v, from the place `at` on, and returns the next place.
 pub fn put_head(out: &mut [u8], at: usize, v: Vocabulary, i: usize, number: usize) -> usize
     requires { ⌜ (i < length (words v)) × (at + length (headText v i number) ≤ length (now out)) ⌝ }
     ensures { λ r. ⌜ WrittenAt at (headText v i number) (now (out .entry)) (now (out .exit)) r ⌝ }

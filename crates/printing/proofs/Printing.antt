@@ -60,7 +60,7 @@ module _ (text : Job → List ℕ) (short : (job : Job) → AcceptedJob job → 
       record { used = h .as-written refl .0; bytes = h .as-written refl .1 }
   printed-by (refused o) e w = w .as-refused (λ z. omega (arith, z, fault-from file o (read-refused file o e .fault)))
 
-  -- what the code holds: the answer and the buffer behind it
+  -- what the code holds: the answer and the buffer afterwards
   module _ {a : TextAnswer} {after : List ℕ} (e : a ≡ textAnswer text (readJob file) (length before)) (f : after ≡ bufferAfter text (readJob file) before) where
     pub refusal-fits : RefusalFits a after
     refusal-fits = rw (e, f) (fits-by (readJob file) refl)

@@ -1,2 +1,2 @@
--- What the program `route` prints.
+-- What the programs print that write a text for a job.
 pub mod Printed

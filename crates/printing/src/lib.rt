@@ -18,7 +18,7 @@ pub struct Printed {
     pub used: usize,
 }
 
-// Makes of the buffer behind an operation what is printed, and returns its length: the text that stands there, or the line of the refusal.
+// Makes of the buffer after an operation what is printed, and returns its length: the text that stands there, or the line of the refusal.
 fn put_report(out: &mut [u8], answer: TextAnswer) -> usize
     requires { ⌜ RefusalFits answer (now out) ⌝ }
     ensures { λ r. ⌜ Reported answer (now (out .entry)) (now (out .exit)) r ⌝ }

@@ -27,9 +27,9 @@ use Rattle.jobfile.specs.declared.Outcome.{Outcome}
 use Rattle.jobfile.specs.Forms.{noWord, ifLast, formAfter, formOpened, formOf, readForm}
 use Rattle.jobfile.specs.Read.{start, filled, Next, go, unless, atStart, atOpened, atSized, atFilled, boardOf, emptyJob, lastNumber, pinsFree, addNet, addBlock, step, accepted, ended, follow, readFrom, readJob}
 use Rattle.jobfile.proofs.Tests.{within-is, differ-is, net-range-is, block-range-is, last-net, free-is, length-is}
-use Rattle.house.specs.Blocks.{blockNumbers, sortBlocks, EquallyOften}
+use Rattle.house.specs.Blocks.{blockNumbers, sortBlocks}
 use Rattle.house.specs.HouseText.{spacedThen, openingLine, innerLine, closingLine, netNumbers, netLine, blockLine, houseLines, endedLines, houseText, houseJob, SameJob}
-use Rattle.house.proofs.BlockOrder.{sorted-each, sorted-length, sorted-times, sort-same, same-sorted}
+use Rattle.house.proofs.BlockOrder.{sorted-each, sorted-length, sort-same, same-sorted}
 use Rattle.house.proofs.HouseLines.{inWord, rows-form, tracks-form, net-form, block-form, Plain, plain-inner, lines-ended}
 
 -- ---- one line more

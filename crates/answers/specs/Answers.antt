@@ -29,12 +29,11 @@ answerValues (TooSmall n) = record { number = 10; line = 0; bytes = n }
 answerValues (Written n) = record { number = 0; line = 0; bytes = n }
 
 -- the number and values that the document gives a job file and a buffer: those of read's refusal; 10, no line and the length needed, if the
--- text has more bytes than the buffer; otherwise no refusal, and the length
+-- text has more bytes than the buffer; otherwise no refusal, and the length. The test of the room stands again in the two definitions below; the
+-- clauses of an operation hold the three together
 unfoldable pub documentValues : (Job → List ℕ) → Read → ℕ → AnswerValues
 documentValues text (refused o) room = record { number = outcomeValues o .number; line = outcomeValues o .line; bytes = 0 }
 documentValues text (accepted job) room = let n = length (text job) in record { number = cond (leb n room) 0 10; line = 0; bytes = n }
-
--- (that the three tests of the room, here and below, are one is what the clauses `values` and `right` of an operation show)
 
 -- the answer for the text t of an accepted job and the length of the buffer: 10 if t has more bytes than the buffer, otherwise its length
 unfoldable pub answerFor : List ℕ → ℕ → TextAnswer

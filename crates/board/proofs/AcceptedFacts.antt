@@ -2,6 +2,7 @@
 -- values that it lets through. Assumes nothing.
 use Prim.Native.Nat.{ℕ}
 use mathlib.Core.Path.{_≡_, refl}
+use mathlib.Core.Logic.{inl}
 use mathlib.Core.List.{List, [], _∷_, List·Memᴰ·head, List·Memᴰ·tail}
 use native.Mathlib.Omega.{arith}
 use lib.ListN.{replicate}
@@ -19,9 +20,9 @@ use Rattle.board.proofs.ShortestShape.{none-allowed}
 abbrev sized : ℕ → ℕ → Board
 sized h k = record { rows = h; tracks = k }
 
--- a net by its number, L, R, min and max
+-- a net by its number, L, R, min and max, and of weight 10
 abbrev netWith : ℕ → ℕ → ℕ → ℕ → ℕ → Net
-netWith i l r lo hi = record { number = i; left = record { 0 = l }; right = record { 0 = r }; min = lo; max = hi }
+netWith i l r lo hi = record { number = i; left = record { 0 = l }; right = record { 0 = r }; min = lo; max = hi; weight = 10 }
 
 -- a block by its track, A and B
 abbrev blockWith : ℕ → ℕ → ℕ → Block
@@ -140,6 +141,7 @@ ten-rows = record {
   some-shape = Stretched 7;
   some-length = record { long = omega arith; short = omega arith };
   fits-board = omega arith;
+  weight-is = inl (omega arith);
 }
 
 pub eleven-rows : AcceptedNet workedBoard (netWith 1 2 4 25 25) → ⊥

@@ -24,7 +24,8 @@ use Rattle.board.specs.Tests.{sameNet, isOfJob, isLong, isShort, isFromO
 sameNet-true : (m n : Net) → sameNet m n ≡ true → m ≡ n
 unfolding sameNet
 sameNet-true m n h =
-    let a = and-split _ _ h in
+    let w = and-split _ _ h in
+    let a = and-split _ _ (w .0) in
     let b = and-split _ _ (a .0) in
     let c = and-split _ _ (b .0) in
     let d = and-split _ _ (c .0) in
@@ -33,14 +34,15 @@ sameNet-true m n h =
     let e3 = eqb-true (m .right .0) (n .right .0) (c .1) in
     let e4 = eqb-true (m .min) (n .min) (b .1) in
     let e5 = eqb-true (m .max) (n .max) (a .1) in
-    λ i. record { number = e1 i; left = record { 0 = e2 i }; right = record { 0 = e3 i }; min = e4 i; max = e5 i }
+    let e6 = eqb-true (m .weight) (n .weight) (w .1) in
+    λ i. record { number = e1 i; left = record { 0 = e2 i }; right = record { 0 = e3 i }; min = e4 i; max = e5 i; weight = e6 i }
 
 sameNet-refl : (n : Net) → sameNet n n ≡ true
 unfolding sameNet
 sameNet-refl n =
-    and-both _ _ (and-both _ _ (and-both _ _ (and-both _ _
+    and-both _ _ (and-both _ _ (and-both _ _ (and-both _ _ (and-both _ _
     (eq-eqb (n .number) (n .number) refl) (eq-eqb (n .left .0) (n .left .0) refl)) (eq-eqb (n .right .0) (n .right .0) refl))
-    (eq-eqb (n .min) (n .min) refl)) (eq-eqb (n .max) (n .max) refl)
+    (eq-eqb (n .min) (n .min) refl)) (eq-eqb (n .max) (n .max) refl)) (eq-eqb (n .weight) (n .weight) refl)
 
 listed : (n : Net) (ns : List Net) → anyOf (sameNet n) ns ≡ true → List·Memᴰ n ns
 unfolding anyOf

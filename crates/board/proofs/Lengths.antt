@@ -31,44 +31,44 @@ tried {board} {net} s k b n f t =
     }
 
 -- min = max = 23 gives e = 7, n = 12 and eight tops, 3 to 10
-pub rows-21 : Tried (triedBoard 21) (triedNet 23 23) 23 7 12 3 10
+pub rows-21 : Tried (triedBoard 21) (triedNet 23 23 12) 23 7 12 3 10
 unfolding width upper lower span plainLength shortest needed covered firstTop lastTop
 rows-21 = tried refl refl (omega arith) refl refl refl
 
 -- 20 rows give seven
-pub rows-20 : Tried (triedBoard 20) (triedNet 23 23) 23 7 12 3 9
+pub rows-20 : Tried (triedBoard 20) (triedNet 23 23 12) 23 7 12 3 9
 unfolding width upper lower span plainLength shortest needed covered firstTop lastTop
 rows-20 = tried refl refl (omega arith) refl refl refl
 
 -- 14 rows one
-pub rows-14 : Tried (triedBoard 14) (triedNet 23 23) 23 7 12 3 3
+pub rows-14 : Tried (triedBoard 14) (triedNet 23 23 12) 23 7 12 3 3
 unfolding width upper lower span plainLength shortest needed covered firstTop lastTop
 rows-14 = tried refl refl (omega arith) refl refl refl
 
 -- min 22 with max 23 gives 23
-pub min-22 : Tried (triedBoard 21) (triedNet 22 23) 23 7 12 3 10
+pub min-22 : Tried (triedBoard 21) (triedNet 22 23 12) 23 7 12 3 10
 unfolding width upper lower span plainLength shortest needed covered firstTop lastTop
 min-22 = tried refl refl (omega arith) refl refl refl
 
 -- min 8 with max 9 gives e = 0
-pub min-8 : Tried (triedBoard 21) (triedNet 8 9) 9 0 5 10 10
+pub min-8 : Tried (triedBoard 21) (triedNet 8 9 5) 9 0 5 10 10
 unfolding width upper lower span plainLength shortest needed covered firstTop lastTop
 min-8 = tried refl refl (omega arith) refl refl refl
 
 -- min 22 with max 22 has no allowed length
-pub max-22 : (s : Shape) → Allowed (triedBoard 21) (triedNet 22 22) s → ⊥
+pub max-22 : (s : Shape) → Allowed (triedBoard 21) (triedNet 22 22 12) s → ⊥
 unfolding width upper lower span plainLength shortest
-max-22 = none-allowed (triedBoard 21) (triedNet 22 22) .0 (omega arith)
+max-22 = none-allowed (triedBoard 21) (triedNet 22 22 12) .0 (omega arith)
 
 -- nor has min 8 with max 8
-pub max-8 : (s : Shape) → Allowed (triedBoard 21) (triedNet 8 8) s → ⊥
+pub max-8 : (s : Shape) → Allowed (triedBoard 21) (triedNet 8 8 5) s → ⊥
 unfolding width upper lower span plainLength shortest
-max-8 = none-allowed (triedBoard 21) (triedNet 8 8) .0 (omega arith)
+max-8 = none-allowed (triedBoard 21) (triedNet 8 8 5) .0 (omega arith)
 
 -- nor has max 6, whatever min, as D = 7
-pub max-6 : (least : ℕ) (s : Shape) → Allowed (triedBoard 21) (triedNet least 6) s → ⊥
+pub max-6 : (least heavy : ℕ) (s : Shape) → Allowed (triedBoard 21) (triedNet least 6 heavy) s → ⊥
 unfolding width upper lower span plainLength
-max-6 least = none-below-plain (triedBoard 21) (triedNet least 6) (omega arith)
+max-6 least heavy = none-below-plain (triedBoard 21) (triedNet least 6 heavy) (omega arith)
 
 -- ---- what is tried of a net, taken out clause by clause: none of them asks less than its words say
 module _ {board : Board} {net : Net} {l e n first last : ℕ} (t : Tried board net l e n first last) where

@@ -10,7 +10,8 @@ use Rattle.lists.proofs.Laws.{Each-both, Each-at}
 use Rattle.board.specs.declared.Board.{Board}
 use Rattle.board.specs.declared.Net.{Net}
 use Rattle.board.specs.declared.Shape.the-variants.{Plain, Stretched}
-use Rattle.board.specs.Length.{width, upper, lower, span, plainLength, lengthOf, Allowed, shortest, needed, worth}
+use Rattle.board.specs.Length.{width, upper, lower, span, plainLength, lengthOf, Allowed, shortest, needed}
+use Rattle.board.specs.Weight.{weight}
 use Rattle.board.specs.Job.{Job}
 use Rattle.board.specs.Placement.{Placement, placementAt, Legal, bottom}
 use Rattle.board.specs.Precedence.{Precedes}
@@ -19,28 +20,29 @@ use Rattle.board.specs.WorkedBoard.{workedBoard, workedJob, net1, net2, 
 use Rattle.board.specs.Tests.{isOn, isBefore, isReady, isEligible}
 use Rattle.board.specs.RivalClauses.{brokenClauses, BreaksOnly}
 use Rattle.board.specs.RivalClauses.Clause.{net-of-job, length-from-min, length-to-max, top-from-row-one, top-to-upper, bottom-from-lower, bottom-to-last-row, clear-of-blocks, on-no-earlier-track, preceding-on-earlier-tracks, tops-rise, no-shared-row}
+use Rattle.board.specs.WeightedBoard.{weightedJob, longAlone, twoShort}
 use Rattle.board.specs.RivalExamples.{wide1, odd2, wide3, wideJob, track1, track2, longer3, otherTop, allRows, net6}
 use Rattle.board.proofs.RivalTests.{rival-exact, breaks-only}
 
 -- ---- rival sequences and their sums
 
 -- the empty list, on every track of every job
-pub empty-rival : (job : Job) (earlier : List ℕ) (t : ℕ) → Rival job earlier t [] × (rivalSum (job .board) [] ≡ 0)
+pub empty-rival : (job : Job) (earlier : List ℕ) (t : ℕ) → Rival job earlier t [] × (rivalSum [] ≡ 0)
 unfolding rivalSum
 empty-rival job earlier t = (record { placeable = tt; rising = tt; apart = tt }, refl)
 
 -- the wires that route writes: (track 1 9), and then (track 2 2)
-pub track1-rival : Rival workedJob [] 1 track1 × (rivalSum workedBoard track1 ≡ 9)
-unfolding brokenClauses rivalSum worth needed shortest
+pub track1-rival : Rival workedJob [] 1 track1 × (rivalSum track1 ≡ 9)
+unfolding brokenClauses rivalSum weight needed shortest
 track1-rival = (rival-exact workedJob [] 1 track1 .0 refl, refl)
 
-pub track2-rival : Rival workedJob (1 ∷ 2 ∷ 3 ∷ []) 2 track2 × (rivalSum workedBoard track2 ≡ 2)
-unfolding brokenClauses rivalSum worth needed shortest
+pub track2-rival : Rival workedJob (1 ∷ 2 ∷ 3 ∷ []) 2 track2 × (rivalSum track2 ≡ 2)
+unfolding brokenClauses rivalSum weight needed shortest
 track2-rival = (rival-exact workedJob (1 ∷ 2 ∷ 3 ∷ []) 2 track2 .0 refl, refl)
 
 -- net 3 longer than its shortest: the same sum
-pub longer-rival : Rival workedJob [] 1 longer3 × (rivalSum workedBoard longer3 ≡ 9)
-unfolding brokenClauses rivalSum worth needed shortest
+pub longer-rival : Rival workedJob [] 1 longer3 × (rivalSum longer3 ≡ 9)
+unfolding brokenClauses rivalSum weight needed shortest
 longer-rival = (rival-exact workedJob [] 1 longer3 .0 refl, refl)
 
 -- net 3 could be shorter there: its shortest shape is allowed, and its length is below the one drawn
@@ -50,25 +52,36 @@ unfolding shortest plainLength width span upper lower
 longer-than-shortest = (List·Memᴰ·tail (List·Memᴰ·tail (List·Memᴰ·head refl)), record { long = omega arith; short = omega arith }, omega arith)
 
 -- one that is not ours: planning/proofs/Boards.antt shows that it is not what the plan has
-pub other-top-rival : Rival workedJob [] 1 otherTop × (rivalSum workedBoard otherTop ≡ 7)
-unfolding brokenClauses rivalSum worth needed shortest
+pub other-top-rival : Rival workedJob [] 1 otherTop × (rivalSum otherTop ≡ 7)
+unfolding brokenClauses rivalSum weight needed shortest
 other-top-rival = (rival-exact workedJob [] 1 otherTop .0 refl, refl)
 
 -- wires on all of rows 1 to H, of which their nets need 3 + 4 + 2
-pub all-rows-rival : Rival wideJob [] 1 allRows × (rivalSum workedBoard allRows ≡ 9)
-unfolding brokenClauses rivalSum worth needed shortest
+pub all-rows-rival : Rival wideJob [] 1 allRows × (rivalSum allRows ≡ 9)
+unfolding brokenClauses rivalSum weight needed shortest
 all-rows-rival = (rival-exact wideJob [] 1 allRows .0 refl, refl)
 
+-- rivals add weights: with a weight of 7 the two short nets are heavier than the long one, which has more rows
+pub weighted-rivals :
+    (Rival (weightedJob 7) [] 1 (twoShort 7) × (rivalSum (twoShort 7) ≡ 9)) × (Rival (weightedJob 7) [] 1 longAlone × (rivalSum longAlone ≡ 6))
+unfolding brokenClauses rivalSum weight needed shortest
+weighted-rivals = ((rival-exact (weightedJob 7) [] 1 (twoShort 7) .0 refl, refl), (rival-exact (weightedJob 7) [] 1 longAlone .0 refl, refl))
+
+-- and with one of 2, its needed rows, lighter
+pub unweighted-rivals : Rival (weightedJob 2) [] 1 (twoShort 2) × (rivalSum (twoShort 2) ≡ 4)
+unfolding brokenClauses rivalSum weight needed shortest
+unweighted-rivals = (rival-exact (weightedJob 2) [] 1 (twoShort 2) .0 refl, refl)
+
 -- the sum goes by the nets alone, whatever the lengths drawn
-pub sum-by-nets : (board : Board) (ps qs : List Placement) → map (λ x. x .net) ps ≡ map (λ x. x .net) qs → rivalSum board ps ≡ rivalSum board qs
+pub sum-by-nets : (ps qs : List Placement) → map (λ x. x .net) ps ≡ map (λ x. x .net) qs → rivalSum ps ≡ rivalSum qs
 unfolding rivalSum
-sum-by-nets board [] [] e = refl
-sum-by-nets board [] (q ∷ qs) e = cc
-sum-by-nets board (p ∷ ps) [] e = cc
-sum-by-nets board (p ∷ ps) (q ∷ qs) e =
+sum-by-nets [] [] e = refl
+sum-by-nets [] (q ∷ qs) e = cc
+sum-by-nets (p ∷ ps) [] e = cc
+sum-by-nets (p ∷ ps) (q ∷ qs) e =
     let a : p .net ≡ q .net = cc in
     let b : map (λ x. x .net) ps ≡ map (λ x. x .net) qs = cc in
-    ap₂ _+_ (ap (worth board) a) (sum-by-nets board ps qs b)
+    ap₂ _+_ (ap weight a) (sum-by-nets ps qs b)
 
 -- ---- placements that break one clause alone
 

@@ -2,7 +2,7 @@
 -- allowed. The needed rows of a net are the rows that it covers. Assumes nothing.
 use Prim.Native.Nat.{ℕ, _+_, _*_, _≤_, _<_}
 use mathlib.Core.Path.{_≡_, refl, ap}
-use mathlib.Core.Logic.{_↔_, _⊎_, inl, inr}
+use mathlib.Core.Logic.{_↔_, _⊎_, inl, inr, ⊎-elim}
 use native.Mathlib.Omega.{arith}
 use lib.Dec.{leb}
 use borrow.Author.Tests.{leb-true, leb-false}
@@ -11,10 +11,11 @@ use Rattle.board.specs.declared.Board.{Board}
 use Rattle.board.specs.declared.Net.{Net}
 use Rattle.board.specs.declared.Shape.{Shape}
 use Rattle.board.specs.declared.Shape.the-variants.{Plain, Stretched}
-use Rattle.board.specs.Length.{width, upper, lower, span, plainLength, extra, lengthOf, Allowed, shortest, needed, worth}
+use Rattle.board.specs.Length.{width, upper, lower, span, plainLength, extra, lengthOf, Allowed, shortest, needed}
+use Rattle.board.specs.Weight.{weight}
 use Rattle.board.specs.Placement.{covered}
 use Rattle.board.specs.Shrunk.{Shorter}
-use Rattle.board.specs.Accepted.{BoardInRange, NetInRange}
+use Rattle.board.specs.Accepted.{BoardInRange, NetInRange, AcceptedNet}
 
 -- a + |L − R| = b
 pub span-add : (n : Net) → upper n + span n ≡ lower n
@@ -106,10 +107,6 @@ pub needed-pos : (board : Board) (n : Net) → 1 ≤ needed board n
 unfolding needed
 needed-pos board n = omega arith
 
-pub worth-needed : (board : Board) (n : Net) → worth board n ≡ needed board n
-unfolding worth
-worth-needed board n = refl
-
 -- a net that passes refusal 3: 1 ≤ a ≤ b ≤ H
 pub record FixedRows (board : Board) (n : Net) : Type 0 where
   pub upper-one : 1 ≤ upper n
@@ -129,7 +126,7 @@ plain-range board n b r =
     let e = plain-is board n in
     omega arith
 
--- e, n and what the net is worth
+-- e and n
 pub stretch-range : (board : Board) (n : Net) → BoardInRange board → NetInRange board n → extra (shortest board n) ≤ 2045
 stretch-range board n b r =
     let p = plain-range board n b r in
@@ -143,9 +140,13 @@ needed-range board n b r =
     let s = stretch-range board n b r in
     omega arith
 
-pub worth-range : (board : Board) (n : Net) → BoardInRange board → NetInRange board n →
-    (1 ≤ worth board n) × (worth board n ≤ 3069)
-worth-range board n b r =
-    let w = worth-needed board n in
-    let h = needed-range board n b r in
-    omega arith
+-- the weight of an accepted net: its needed rows, or one from 1 to 999
+pub weight-range : (board : Board) (n : Net) → BoardInRange board → AcceptedNet board n →
+    (1 ≤ weight n) × (weight n ≤ 1024)
+unfolding weight
+weight-range board n b a =
+    let p = needed-pos board n in
+    ⊎-elim
+    (λ (e : n .weight ≡ needed board n). (omega arith, omega arith))
+    (λ (h : (1 ≤ n .weight) × (n .weight ≤ 999)). (omega arith, omega arith))
+    (a .weight-is)

@@ -10,7 +10,7 @@ use Rattle.board.specs.Unbeaten.{FilledTrack, emptyTrack, numbersOn, Opt
 
 module _ (job : Job) (earlier : List ℕ) (t : ℕ) (tp : FilledTrack) (o : Optimal job earlier t tp) where
   -- no rival sequence has more than the wires of the track
-  pub wires-most : (ps : List Placement) → Rival job earlier t ps → rivalSum (job .board) ps ≤ rivalSum (job .board) (tp .wires)
+  pub wires-most : (ps : List Placement) → Rival job earlier t ps → rivalSum ps ≤ rivalSum (tp .wires)
   wires-most ps r = omega (arith, o .most ps r, o .sum-is)
 
   -- they are a rival sequence

@@ -2,6 +2,7 @@
 -- what each clause turns away.
 use Prim.Native.Nat.{_≤_, _<_}
 use mathlib.Core.Path.{_≡_}
+use mathlib.Core.Logic.{_⊎_}
 use mathlib.Core.List.{List·Memᴰ}
 use lib.ListN.{length}
 use Rattle.lists.specs.Lists.{EachPair}
@@ -31,13 +32,15 @@ pub record BlockInRange (board : Board) (b : Block) : Type 0 where
   pub in-order : b .first .0 ≤ b .last .0
   pub last-range : b .last .0 ≤ board .rows
 
--- refusals 3, 7, 8 and 9 of one net: in range, L ≠ R, some length is allowed, n at most H
+-- refusals 3, 7, 8 and 9 of one net: in range, L ≠ R, some length is allowed, n at most H; its weight is its needed rows, where its line
+-- leaves the weight out, or one from 1 to 999
 pub record AcceptedNet (board : Board) (n : Net) : Type 0 where
   pub in-range : NetInRange board n
   pub ends-differ : n .left .0 ≡ n .right .0 → ⊥
   pub some-shape : Shape
   pub some-length : Allowed board n some-shape
   pub fits-board : needed board n ≤ board .rows
+  pub weight-is : (n .weight ≡ needed board n) ⊎ ((1 ≤ n .weight) × (n .weight ≤ 999))
 
 -- a job that no refusal 3 to 9 turns away: its board, nets and blocks as above; 4, at most 512 nets and 256 blocks; 5, numbers rise;
 -- 6, no left row and no right row is used twice

@@ -51,7 +51,3 @@ shortest board n =
 -- n, the needed rows: |L − R| + 1, plus e if stretched
 unfoldable pub needed : Board → Net → ℕ
 needed board n = span n + 1 + extra (shortest board n)
-
--- what the choice of a track, the printed sums, their balance and the sums of rivals add for a net: its needed rows
-unfoldable pub worth : Board → Net → ℕ
-worth board n = needed board n

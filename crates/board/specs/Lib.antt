@@ -1,5 +1,6 @@
 -- The model of document 01, and its boards as values: what a reader must believe. Nothing here looks at how a track is chosen.
 pub mod Length
+pub mod Weight
 pub mod Job
 pub mod Placement
 pub mod TopRows
@@ -14,3 +15,4 @@ pub mod Stored
 pub mod WorkedBoard
 pub mod TriedBoards
 pub mod RivalExamples
+pub mod WeightedBoard

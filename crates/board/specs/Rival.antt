@@ -2,9 +2,7 @@
 use Prim.Native.Nat.{ℕ, _+_, _≤_, _<_}
 use mathlib.Core.List.{List, [], _∷_, List·Memᴰ}
 use Rattle.lists.specs.Lists.{Each, EachPair}
-use Rattle.board.specs.declared.Board.{Board}
-use Rattle.board.specs.declared.Net.{Net}
-use Rattle.board.specs.Length.{worth}
+use Rattle.board.specs.Weight.{weight}
 use Rattle.board.specs.Job.{Job}
 use Rattle.board.specs.Placement.{Placement, Legal, Clear, bottom}
 use Rattle.board.specs.Precedence.{Eligible}
@@ -27,12 +25,7 @@ pub record Rival (job : Job) (earlier : List ℕ) (t : ℕ) (ps : List Placement
   pub rising : EachPair (λ p q. p .top < q .top) ps
   pub apart : EachPair Apart ps
 
--- the sum of a rival sequence: what its nets are worth, whatever the lengths drawn
-unfoldable pub rivalSum : Board → List Placement → ℕ
-rivalSum board [] = 0
-rivalSum board (p ∷ ps) = worth board (p .net) + rivalSum board ps
-
--- what nets are worth together
-unfoldable pub worthSum : Board → List Net → ℕ
-worthSum board [] = 0
-worthSum board (n ∷ ns) = worth board n + worthSum board ns
+-- the sum of a rival sequence: the weights of its nets, whatever the lengths drawn
+unfoldable pub rivalSum : List Placement → ℕ
+rivalSum [] = 0
+rivalSum (p ∷ ps) = weight (p .net) + rivalSum ps

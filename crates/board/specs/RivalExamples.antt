@@ -9,15 +9,15 @@ use Rattle.board.specs.WorkedBoard.{workedBoard, workedBlock, net1, net2
 
 -- net 1 of the worked job with a max of 13: it may be stretched
 abbrev pub wide1 : Net
-wide1 = record { number = 1; left = record { 0 = 2 }; right = record { 0 = 4 }; min = 7; max = 13 }
+wide1 = record { number = 1; left = record { 0 = 2 }; right = record { 0 = 4 }; min = 7; max = 13; weight = 3 }
 
 -- net 2 of the worked job with a min of 10, so that min − D is odd
 abbrev pub odd2 : Net
-odd2 = record { number = 2; left = record { 0 = 6 }; right = record { 0 = 8 }; min = 10; max = 12 }
+odd2 = record { number = 2; left = record { 0 = 6 }; right = record { 0 = 8 }; min = 10; max = 12; weight = 4 }
 
 -- net 3 of the worked job with a max of 10
 abbrev pub wide3 : Net
-wide3 = record { number = 3; left = record { 0 = 9 }; right = record { 0 = 10 }; min = 6; max = 10 }
+wide3 = record { number = 3; left = record { 0 = 9 }; right = record { 0 = 10 }; min = 6; max = 10; weight = 2 }
 
 -- the worked job with these three nets in place of its own
 abbrev pub wideJob : Job
@@ -45,4 +45,4 @@ allRows = placementAt wide1 (Stretched 1) 1 ∷ placementAt odd2 (Stretched 1) 5
 
 -- a net that is not in the worked job
 abbrev pub net6 : Net
-net6 = record { number = 6; left = record { 0 = 5 }; right = record { 0 = 7 }; min = 7; max = 7 }
+net6 = record { number = 6; left = record { 0 = 5 }; right = record { 0 = 7 }; min = 7; max = 7; weight = 3 }

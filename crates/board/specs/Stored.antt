@@ -14,7 +14,7 @@ jobOf s = record { board = s .board; nets = take (s .nnets) (s .nets); blocks = 
 
 -- what an unused slot of the nets holds
 abbrev pub noNet : Net
-noNet = record { number = 0; left = record { 0 = 0 }; right = record { 0 = 0 }; min = 0; max = 0 }
+noNet = record { number = 0; left = record { 0 = 0 }; right = record { 0 = 0 }; min = 0; max = 0; weight = 0 }
 
 -- what an unused slot of the blocks holds
 abbrev pub noBlock : Block

@@ -11,11 +11,11 @@ use Rattle.board.specs.Length.{upper, lower, lengthOf}
 use Rattle.board.specs.Job.{Job, blocked}
 use Rattle.board.specs.Placement.{Placement, bottom}
 
--- the same net: the same number, ends and bounds
+-- the same net: the same number, ends, bounds and weight
 unfoldable pub sameNet : Net → Net → Bool
 sameNet m n =
     eqb (m .number) (n .number) && eqb (m .left .0) (n .left .0) && eqb (m .right .0) (n .right .0) &&
-    eqb (m .min) (n .min) && eqb (m .max) (n .max)
+    eqb (m .min) (n .min) && eqb (m .max) (n .max) && eqb (m .weight) (n .weight)
 
 -- the net of a placement is one of the job
 unfoldable pub isOfJob : Job → Placement → Bool

@@ -12,9 +12,9 @@ use Rattle.board.specs.Placement.{Legal, shortestAt}
 abbrev pub triedBoard : ℕ → Board
 triedBoard rows = record { rows = rows; tracks = 1 }
 
--- the net from row 10 to row 14 with these bounds
-abbrev pub triedNet : ℕ → ℕ → Net
-triedNet least most = record { number = 1; left = record { 0 = 10 }; right = record { 0 = 14 }; min = least; max = most }
+-- the net from row 10 to row 14 with these bounds and this weight
+abbrev pub triedNet : ℕ → ℕ → ℕ → Net
+triedNet least most heavy = record { number = 1; left = record { 0 = 10 }; right = record { 0 = 14 }; min = least; max = most; weight = heavy }
 
 -- the shortest allowed length of the net is l, with stretch e and n needed rows, and its tops there are the rows `first` to `last`
 pub record Tried (board : Board) (net : Net) (l e n first last : ℕ) : Type 0 where

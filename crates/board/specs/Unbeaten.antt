@@ -27,9 +27,9 @@ numbersOn (tp ∷ tps) = numbers (tp .wires) ++ numbersOn tps
 
 -- on track t no rival sequence has a larger sum than that of tp; the wires of tp are a rival sequence, and their sum is that of tp
 pub record Optimal (job : Job) (earlier : List ℕ) (t : ℕ) (tp : FilledTrack) : Type 0 where
-  pub most : (ps : List Placement) → Rival job earlier t ps → rivalSum (job .board) ps ≤ tp .sum
+  pub most : (ps : List Placement) → Rival job earlier t ps → rivalSum ps ≤ tp .sum
   pub rival : Rival job earlier t (tp .wires)
-  pub sum-is : rivalSum (job .board) (tp .wires) ≡ tp .sum
+  pub sum-is : rivalSum (tp .wires) ≡ tp .sum
 
 -- a plan has the job's tracks 1 to K, track i + 1 at place i, and each is optimal with the nets of the tracks before it held
 pub record Unbeaten (job : Job) (plan : List FilledTrack) : Type 0 where

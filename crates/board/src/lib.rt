@@ -20,13 +20,15 @@ pub struct Board {
     pub tracks: usize,
 }
 
-// A net: its pins are at row `left` (L) on the left and `right` (R) on the right; its length is from `min` to `max`.
+// A net: its pins are at row `left` (L) on the left and `right` (R) on the right; its length is from `min` to `max`. `weight` is what the
+// choice of a track and the sums add for it: the weight that its line gives, or its needed rows where the line leaves it out.
 pub struct Net {
     pub number: usize,
     pub left: Row,
     pub right: Row,
     pub min: usize,
     pub max: usize,
+    pub weight: usize,
 }
 
 // A block closes rows `first` to `last` (A to B) of one track on layer 2.
@@ -154,15 +156,6 @@ pub fn needed(board: Board, net: Net) -> usize
 {
     let least = shortest(board, net);
     covered(net, least)
-}
-
-// What the choice of a track and the sums add for a net.
-pub fn worth(board: Board, net: Net) -> usize
-    requires { ⌜ BoardInRange board ⌝ }
-    requires { ⌜ NetInRange board net ⌝ }
-    ensures { λ r. ⌜ r ≡ lengths.worth board net ⌝ }
-{
-    needed(board, net)
 }
 
 // max(1, a − e), the first top row of a net in a shape.

@@ -7,7 +7,8 @@ use native.Mathlib.Omega.{arith}
 use lib.ListN.{length, getD, take, drop, set, replicate, length-append, length-map, length-drop}
 use lib.Seq.{length-take-le, append-snoc}
 use Rattle.board.specs.declared.Board.{Board}
-use Rattle.board.specs.Length.{shortest, needed, worth}
+use Rattle.board.specs.Length.{shortest, needed}
+use Rattle.board.specs.Weight.{weight}
 use Rattle.board.specs.Job.{Job}
 use Rattle.board.specs.Placement.{firstTop, lastTop}
 use Rattle.board.specs.Accepted.{AcceptedJob}
@@ -33,7 +34,7 @@ withSlot c x tops =
       count = c .count + 1;
       net = set (c .net) (c .count) (x .index);
       need = set (c .need) (c .count) (tops .need);
-      worth = set (c .worth) (c .count) (tops .worth);
+      weight = set (c .weight) (c .count) (tops .weight);
       first = set (c .first) (c .count) (tops .first .0);
       last = set (c .last) (c .count) (tops .last .0);
     }
@@ -51,10 +52,10 @@ arrays-more board c xs x tops e h t =
     let n : length xs + 1 ≡ length (xs ++ (x ∷ [])) = sym (length-append xs (x ∷ [])) in
     let a = array-more (λ y. y .index) xs x (x .index) h refl in
     let b = array-more (λ y. needed board (y .net)) xs x (tops .need) h (t .need) in
-    let w = array-more (λ y. worth board (y .net)) xs x (tops .worth) h (t .worth-is) in
+    let w = array-more (λ y. weight (y .net)) xs x (tops .weight) h (t .weight-is) in
     let f = array-more (λ y. firstTop (y .net) (shortest board (y .net))) xs x (tops .first .0) h (t .first) in
     let l = array-more (λ y. lastTop board (y .net) (shortest board (y .net))) xs x (tops .last .0) h (t .last) in
-    ap (λ d. withSlot d x tops) e ∙ (λ i. record { count = n i; net = a i; need = b i; worth = w i; first = f i; last = l i })
+    ap (λ d. withSlot d x tops) e ∙ (λ i. record { count = n i; net = a i; need = b i; weight = w i; first = f i; last = l i })
 
 -- ---- the flags of one more candidate
 -- part i, flagged by the block map, is that of the candidate
@@ -156,7 +157,7 @@ module _ (job : Job) (t : ℕ) where
       record {
         net = in-array (λ y. y .index) pre xs x;
         need = in-array (λ y. needed board (y .net)) pre xs x;
-        worth-is = in-array (λ y. worth board (y .net)) pre xs x;
+        weight-is = in-array (λ y. weight (y .net)) pre xs x;
         first = first;
         last = last;
         clear = λ top a b.

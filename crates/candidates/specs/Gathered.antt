@@ -6,7 +6,8 @@ use mathlib.Core.List.{List, [], _∷_, _++_, map}
 use lib.ListN.{length, getD, take, drop}
 use Rattle.board.specs.declared.Board.{Board}
 use Rattle.board.specs.declared.Net.{Net}
-use Rattle.board.specs.Length.{shortest, needed, worth}
+use Rattle.board.specs.Length.{shortest, needed}
+use Rattle.board.specs.Weight.{weight}
 use Rattle.board.specs.Job.{Job}
 use Rattle.board.specs.Placement.{firstTop, lastTop}
 use Rattle.board.specs.Tests.{isEligible, clearRows}
@@ -36,7 +37,7 @@ candidatesOf job earlier = candidatesFrom job earlier 0 (job .nets)
 pub record Slot (job : Job) (t : ℕ) (c : Candidates) (flags : List ℕ) (i : ℕ) (x : Candidate) : Type 0 where
   pub net : getD (c .net) i 0 ≡ x .index
   pub need : getD (c .need) i 0 ≡ needed (job .board) (x .net)
-  pub worth-is : getD (c .worth) i 0 ≡ worth (job .board) (x .net)
+  pub weight-is : getD (c .weight) i 0 ≡ weight (x .net)
   pub first : getD (c .first) i 0 ≡ firstTop (x .net) (shortest (job .board) (x .net))
   pub last : getD (c .last) i 0 ≡ lastTop (job .board) (x .net) (shortest (job .board) (x .net))
   pub clear : (top : ℕ) → getD (c .first) i 0 ≤ top → top ≤ getD (c .last) i 0 →
@@ -52,10 +53,10 @@ pub record Gathered (job : Job) (earlier : List ℕ) (t : ℕ) (c : Candidates) 
   pub count-is : c .count ≡ length (candidatesOf job earlier)
   pub slots : Slots job t c flags 0 (candidatesOf job earlier)
 
--- what the choice needs of net n: its needed rows, what it is worth, and its first and last top row at its shortest length
+-- what the choice needs of net n: its needed rows, its weight, and its first and last top row at its shortest length
 pub record TopsOf (board : Board) (n : Net) (r : NetTops) : Type 0 where
   pub need : r .need ≡ needed board n
-  pub worth-is : r .worth ≡ worth board n
+  pub weight-is : r .weight ≡ weight n
   pub first : r .first .0 ≡ firstTop n (shortest board n)
   pub last : r .last .0 ≡ lastTop board n (shortest board n)
 
@@ -66,7 +67,7 @@ arraysOf board xs =
       count = length xs;
       net = padded 0 (map (λ x. x .index) xs);
       need = padded 0 (map (λ x. needed board (x .net)) xs);
-      worth = padded 0 (map (λ x. worth board (x .net)) xs);
+      weight = padded 0 (map (λ x. weight (x .net)) xs);
       first = padded 0 (map (λ x. firstTop (x .net) (shortest board (x .net))) xs);
       last = padded 0 (map (λ x. lastTop board (x .net) (shortest board (x .net))) xs);
     }

@@ -11,21 +11,21 @@ use board::Row;
 use board::StoredJob;
 use board::Track;
 
-// The eligible nets by rising index. For candidate i: the net's index in the job, its needed rows, what it is worth, and its first and
+// The eligible nets by rising index. For candidate i: the net's index in the job, its needed rows, its weight, and its first and
 // last top row.
 pub struct Candidates {
     pub count: usize,
     pub net: [usize; 512],
     pub need: [usize; 512],
-    pub worth: [usize; 512],
+    pub weight: [usize; 512],
     pub first: [usize; 512],
     pub last: [usize; 512],
 }
 
-// Of one net at its shortest length: its needed rows, what it is worth, and its first and last top row.
+// Of one net at its shortest length: its needed rows, its weight, and its first and last top row.
 pub struct NetTops {
     pub need: usize,
-    pub worth: usize,
+    pub weight: usize,
     pub first: Row,
     pub last: Row,
 }

@@ -102,7 +102,7 @@ module _ (c : Candidates) (flags best : List ℕ) (j : ℕ) where
 
   -- how many candidates there are does not count, only how many are listed
   pub among-lent : (m : ℕ) (index : List ℕ) (k : ℕ) →
-      pickAmong (lent m (c .net) (c .need) (c .worth) (c .first) (c .last)) flags best j index k ≡ Among index k
+      pickAmong (lent m (c .net) (c .need) (c .weight) (c .first) (c .last)) flags best j index k ≡ Among index k
   unfolding pickAmong sumAt
   among-lent m index zero = refl
   among-lent m index (suc k) = rw (among-lent m index k)

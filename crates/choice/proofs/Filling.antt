@@ -58,14 +58,14 @@ module _ (c : Candidates) (flags : List ℕ) (rows : ℕ) (b : InBounds c flags 
 
   -- the bound of a sum at row j
   sum-low : (best choice : List ℕ) (j : ℕ) → Now best choice j → (i : ℕ) → i < c .count → j ≤ getD (c .last) i 0 →
-      getD (c .worth) i 0 + getD best (j + getD (c .need) i 0) 0 ≤ 4096 * (rows + 1 - j)
+      getD (c .weight) i 0 + getD best (j + getD (c .need) i 0) 0 ≤ 4096 * (rows + 1 - j)
   sum-low best choice j g i h l =
       let k = b .slots i h in
       omega (arith, g .low (j + getD (c .need) i 0) (omega arith) (omega arith))
 
   -- one of the candidates at row j
   rows-left-candidate : (best choice : List ℕ) (j m i : ℕ) → 0 < j → Now best choice j → i < c .count →
-      PickInBounds (lent m (c .net) (c .need) (c .worth) (c .first) (c .last)) flags best j i
+      PickInBounds (lent m (c .net) (c .need) (c .weight) (c .first) (c .last)) flags best j i
   rows-left-candidate best choice j m i z g h =
       record {
         slot-range = omega (arith, b .count-range);
@@ -75,7 +75,7 @@ module _ (c : Candidates) (flags : List ℕ) (rows : ℕ) (b : InBounds c flags 
       }
 
   pub rows-left-row : (best choice : List ℕ) (j lo : ℕ) (band : Band) → 0 < j → Now best choice j → BandAt c band lo j →
-      RowInBounds (lent (band .count) (c .net) (c .need) (c .worth) (c .first) (c .last)) flags best j (band .index)
+      RowInBounds (lent (band .count) (c .net) (c .need) (c .weight) (c .first) (c .last)) flags best j (band .index)
   rows-left-row best choice j lo band h g a =
       let s : BandShape band (c .count) = subst (λ x. BandShape x (c .count)) (sym (a .is-band)) (band-shape (c .first) (c .last) lo (a .hi) (c .count) (b .count-range)) in
       record {
@@ -86,7 +86,7 @@ module _ (c : Candidates) (flags : List ℕ) (rows : ℕ) (b : InBounds c flags 
 
   -- the pick over the listed candidates is the pick over all
   pub band-row : (best : List ℕ) (j lo : ℕ) (band : Band) (p : Pick) → BandAt c band lo j →
-      p ≡ pickAmong (lent (band .count) (c .net) (c .need) (c .worth) (c .first) (c .last)) flags best j (band .index) (band .count) →
+      p ≡ pickAmong (lent (band .count) (c .net) (c .need) (c .weight) (c .first) (c .last)) flags best j (band .index) (band .count) →
       p ≡ pickTo c flags best j (c .count)
   band-row best j lo band p a e =
       e ∙ among-lent c flags best j (band .count) (band .index) (band .count) ∙ ap (λ (x : Band). pickAmong c flags best j (x .index) (x .count)) (a .is-band)

@@ -11,7 +11,7 @@ use Rattle.board.specs.declared.Net.{Net}
 use Rattle.board.specs.Length.{shortest}
 use Rattle.board.specs.Job.{Job}
 use Rattle.board.specs.Accepted.{BoardInRange, AcceptedNet, AcceptedJob}
-use Rattle.board.proofs.ShortestShape.{needed-covered, needed-pos, worth-range}
+use Rattle.board.proofs.ShortestShape.{needed-covered, needed-pos, weight-range}
 use Rattle.board.proofs.Tops.{last-top-room, accepted-fits}
 use Rattle.board.specs.Tests.{isEligible}
 use Rattle.candidates.specs.declared.Candidates.{Candidates}
@@ -23,11 +23,11 @@ use Rattle.choice.proofs.EligibleNets.{candidates-eligible, candidates-
 module _ (job : Job) (earlier : List ℕ) (t : ℕ) (c : Candidates) (flags : List ℕ) where
   slot-bounds : (i : ℕ) (x : Candidate) → BoardInRange (job .board) → AcceptedNet (job .board) (x .net) → Slot job t c flags i x → SlotInBounds c (job .board .rows) i
   slot-bounds i x b a s =
-      let w = worth-range (job .board) (x .net) b (a .in-range) in
+      let w = weight-range (job .board) (x .net) b a in
       let p = needed-pos (job .board) (x .net) in
       let e = needed-covered (job .board) (x .net) in
       let l = last-top-room (job .board) (x .net) (shortest (job .board) (x .net)) (accepted-fits (job .board) (x .net) a) in
-      record { need-range = omega (arith, s .need); room = omega (arith, s .need, s .last); worth-range = omega (arith, s .worth-is) }
+      record { need-range = omega (arith, s .need); room = omega (arith, s .need, s .last); weight-range = omega (arith, s .weight-is) }
 
   -- slot k of those from i on, which hold the candidates among the nets ns from place x on
   slots-bounds : BoardInRange (job .board) → (ns : List Net) (x i k : ℕ) → ((n : Net) → List·Memᴰ n ns → AcceptedNet (job .board) n) →

@@ -76,7 +76,7 @@ module _ (c : Candidates) (flags best : List ℕ) (j : ℕ) (index : List ℕ) (
   pub record Room (i : ℕ) : Type 0 where
     pub slot-range : i < 512
     pub ends : j + getD (c .need) i 0 ≤ 1025
-    pub sum-low : getD (c .worth) i 0 + getD best (j + getD (c .need) i 0) 0 ≤ 4194304
+    pub sum-low : getD (c .weight) i 0 + getD best (j + getD (c .need) i 0) 0 ≤ 4194304
 
   pub stands-room : (k : ℕ) {can : Bool} → k < c .count → can ≡ hasClearTop (c .first) (c .last) flags j (getD index k 0) → can ≡ true → Room (getD index k 0)
   stands-room k h e t =

@@ -12,7 +12,8 @@ use borrow.Author.Tests.{leb-true, ltb-true, ltb-false}
 use Rattle.lists.specs.Lists.{EachPair}
 use Rattle.lists.proofs.Cases.{by-test, and-split}
 use Rattle.board.specs.declared.Net.{Net}
-use Rattle.board.specs.Length.{needed, worth}
+use Rattle.board.specs.Length.{needed}
+use Rattle.board.specs.Weight.{weight}
 use Rattle.board.specs.Job.{Job}
 use Rattle.board.proofs.ShortestShape.{needed-pos}
 use Rattle.board.specs.Tests.{isEligible, clearRows}
@@ -68,7 +69,7 @@ module _ (job : Job) (earlier : List ℕ) (t : ℕ) (c : Candidates) (flags : Li
     slot-sum : Holds → (i : ℕ) (x : Candidate) → Slot job t c flags i x → fitsAt job earlier t (x .net) j ≡ true →
         sumAt c best j i ≡ sumWith (job .board) below (x .net)
     unfolding sumAt sumWith
-    slot-sum h i x s f = rw (s .worth-is, s .need) (ap (λ below-net. worth (job .board) (x .net) + below-net) (h (x .net) f))
+    slot-sum h i x s f = rw (s .weight-is, s .need) (ap (λ below-net. weight (x .net) + below-net) (h (x .net) f))
 
     -- one candidate more, and the same net in the pass over all nets; `go` is the rest of both
     step-same : Holds → (i m : ℕ) (x : Candidate) (ns : List Net) (q : O.PassPick) → Slot job t c flags i x → isEligible job earlier (x .net) ≡ true →

@@ -13,7 +13,7 @@ use Rattle.choice.specs.TrackPlans.{noChoice}
 
 -- the candidates in arrays that are lent one by one
 abbrev pub lent : ℕ → List ℕ → List ℕ → List ℕ → List ℕ → List ℕ → Candidates
-lent count net need worth first last = record { count = count; net = net; need = need; worth = worth; first = first; last = last }
+lent count net need weight first last = record { count = count; net = net; need = need; weight = weight; first = first; last = last }
 
 -- candidate i can stand with its top at row j: j is one of its tops, and it is clear of blocks there; flags outside its tops do not
 -- count
@@ -22,7 +22,7 @@ hasClearTop first last flags j i = leb (getD first i 0) j && leb j (getD last i 
 
 -- the sum with candidate i's top at row j, where `best` has best(r) at index r
 unfoldable pub sumAt : Candidates → List ℕ → ℕ → ℕ → ℕ
-sumAt c best j i = getD (c .worth) i 0 + getD best (j + getD (c .need) i 0) 0
+sumAt c best j i = getD (c .weight) i 0 + getD best (j + getD (c .need) i 0) 0
 
 -- a net takes over only where its sum is more
 unfoldable pub better : Pick → ℕ → ℕ → Pick
@@ -63,11 +63,11 @@ fillFrom c flags (suc j) best choice =
 unfoldable pub filledPlan : Candidates → List ℕ → ℕ → TrackPlan
 filledPlan c flags rows = fillFrom c flags rows (replicate 1026 0) (replicate 1024 noChoice)
 
--- a candidate's rows lie within the board wherever its top is, and it is worth at most 4,096
+-- a candidate's rows lie within the board wherever its top is, and it weighs at most 4,096
 pub record SlotInBounds (c : Candidates) (rows i : ℕ) : Type 0 where
   pub need-range : 1 ≤ getD (c .need) i 0
   pub room : getD (c .last) i 0 + getD (c .need) i 0 ≤ rows + 1
-  pub worth-range : getD (c .worth) i 0 ≤ 4096
+  pub weight-range : getD (c .weight) i 0 ≤ 4096
 
 -- what `fill` asks of the arrays: bounds alone
 pub record InBounds (c : Candidates) (flags : List ℕ) (rows : ℕ) : Type 0 where
@@ -82,7 +82,7 @@ pub record PickInBounds (c : Candidates) (flags best : List ℕ) (j i : ℕ) : T
   pub slot-range : i < 512
   pub flags-range : i * 1024 + 1024 ≤ length flags
   pub room : j ≤ getD (c .last) i 0 → j + getD (c .need) i 0 ≤ 1025
-  pub low : j ≤ getD (c .last) i 0 → getD (c .worth) i 0 + getD best (j + getD (c .need) i 0) 0 ≤ 4194304
+  pub low : j ≤ getD (c .last) i 0 → getD (c .weight) i 0 + getD best (j + getD (c .need) i 0) 0 ≤ 4194304
 
 -- what `row_pick` asks at row j, where c .count candidates are listed
 pub record RowInBounds (c : Candidates) (flags best : List ℕ) (j : ℕ) (index : List ℕ) : Type 0 where

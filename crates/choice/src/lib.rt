@@ -106,15 +106,15 @@ fn row_pick<'a>(
     index: &'a [usize; 512],
     net: &'a [usize; 512],
     need: &'a [usize; 512],
-    worth: &'a [usize; 512],
+    weight: &'a [usize; 512],
     first: &'a [usize; 512],
     last: &'a [usize; 512],
     flags: &[u8],
     best: &[usize; 1026],
     row: Row,
 ) -> Pick
-    requires { ⌜ RowInBounds (lent listed (now net) (now need) (now worth) (now first) (now last)) (now flags) (now best) (row .0) (now index) ⌝ }
-    ensures { λ r. ⌜ r ≡ pickAmong (lent listed (now (net .entry)) (now (need .entry)) (now (worth .entry)) (now (first .entry)) (now (last .entry))) (now (flags .entry)) (now (best .entry)) (row .0) (now (index .entry)) listed ⌝ }
+    requires { ⌜ RowInBounds (lent listed (now net) (now need) (now weight) (now first) (now last)) (now flags) (now best) (row .0) (now index) ⌝ }
+    ensures { λ r. ⌜ r ≡ pickAmong (lent listed (now (net .entry)) (now (need .entry)) (now (weight .entry)) (now (first .entry)) (now (last .entry))) (now (flags .entry)) (now (best .entry)) (row .0) (now (index .entry)) listed ⌝ }
 {
     let j = row.0;
     let next = best[j + 1];
@@ -122,7 +122,7 @@ fn row_pick<'a>(
     for k in 0..listed {
         let i = index[k];
         if has_clear_top(first, last, flags, i, row) {
-            let value = worth[i];
+            let value = weight[i];
             let sum = value + best[j + need[i]];
             p = take_better(p, sum, net[i]);
         }
@@ -155,7 +155,7 @@ pub fn fill(c: Candidates, flags: &[u8], rows: usize) -> TrackPlan
             &listed.index,
             &c.net,
             &c.need,
-            &c.worth,
+            &c.weight,
             &c.first,
             &c.last,
             flags,

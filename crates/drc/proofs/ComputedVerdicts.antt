@@ -4,17 +4,19 @@ use Prim.Native.Nat.{ℕ}
 use mathlib.Core.Path.{_≡_, refl}
 use mathlib.Core.List.{List}
 use Rattle.lists.specs.Lists.{anyOf, allOf, firstOf}
-use Rattle.board.specs.Length.{width, upper, lower, span, plainLength, shortest, needed, worth}
+use Rattle.board.specs.Length.{width, upper, lower, span, plainLength, shortest, needed}
+use Rattle.board.specs.Weight.{weight}
 use Rattle.board.specs.Job.{Job, closesRow, blocked}
 use Rattle.board.specs.Tests.{isLong, isShort, isFromOne, isOverUpper, isUnderLower, isToLast, clearRows, isClear, isOn, isBefore, isReady}
 use Rattle.board.specs.WorkedBoard.{workedJob}
+use Rattle.board.specs.WeightedBoard.{weightedJob}
 use Rattle.text.specs.Bytes.{bytes, same, joined, pieces, nonEmpty}
 use Rattle.text.specs.Digits.{digitsIn, digits, valueFrom}
 use Rattle.layout.specs.LayoutText.{pointsThen, lineText}
 use Rattle.layout.specs.ReadBack.{wordsIn, pointsOf, lineFrom, roughLine, smallPoints, smallLine, readLine}
 use Rattle.layout.specs.Drawing.{viaColumn, wireColumn, samePoint, distinctFrom, nearRow, farRow, corners, pointsOn}
 use Rattle.layout.specs.Drawn.{firstIn, lastIn, placementFrom, placementOf, netNumbered}
-use Rattle.sound.specs.Wires.{worthBy, worthOf}
+use Rattle.sound.specs.Wires.{weightBy, weightOf}
 use Rattle.drc.specs.Standing.{isEnded, readEach, linesRead, withLine}
 use Rattle.drc.specs.Covers.{samePoints, isOnBoard, drawnOf, drawnFrom, drawnBy, trackDrawn, coversOf}
 use Rattle.drc.specs.Judge.{noneLoose, endsTrack, isInTurn, isOpening, isInPlace, isTrueSum, isBelow, isSoundPlace, isSoundWire, isUnlined, isSoundLoose, keepsRules, Verdict, sound-text, broken-at, atTextEnd, judgeFrom, judge}
@@ -23,7 +25,7 @@ use Rattle.drc.specs.LongNet.{longJob}
 
 -- the verdict on a text. To unfold this is to unfold all that it computes with
 unfoldable pub computed : Job → List ℕ → Verdict
-unfolding judge judgeFrom atTextEnd keepsRules isSoundLoose isUnlined isSoundWire isSoundPlace isBelow isTrueSum isInPlace isOpening isInTurn endsTrack noneLoose coversOf trackDrawn drawnBy drawnFrom drawnOf isOnBoard samePoints withLine linesRead readEach isEnded worthOf worthBy netNumbered placementOf placementFrom lastIn firstIn pointsOn corners farRow nearRow distinctFrom samePoint wireColumn viaColumn readLine smallLine smallPoints roughLine lineFrom pointsOf wordsIn lineText pointsThen valueFrom digits digitsIn nonEmpty pieces joined same isReady isBefore isOn isClear clearRows isToLast isUnderLower isOverUpper isFromOne isShort isLong blocked closesRow worth needed shortest plainLength span upper lower width firstOf allOf anyOf
+unfolding judge judgeFrom atTextEnd keepsRules isSoundLoose isUnlined isSoundWire isSoundPlace isBelow isTrueSum isInPlace isOpening isInTurn endsTrack noneLoose coversOf trackDrawn drawnBy drawnFrom drawnOf isOnBoard samePoints withLine linesRead readEach isEnded weightOf weightBy netNumbered placementOf placementFrom lastIn firstIn pointsOn corners farRow nearRow distinctFrom samePoint wireColumn viaColumn readLine smallLine smallPoints roughLine lineFrom pointsOf wordsIn lineText pointsThen valueFrom digits digitsIn nonEmpty pieces joined same isReady isBefore isOn isClear clearRows isToLast isUnderLower isOverUpper isFromOne isShort isLong blocked closesRow weight needed shortest plainLength span upper lower width firstOf allOf anyOf
 computed job text = judge job text
 
 -- the same of the pass
@@ -55,6 +57,14 @@ tops-fall = refl
 pub untrue-sum : judge workedJob (bytes "(layout\n (track 1 8)\n (wire 1 (0 2) (1 2) (1 4) (5 4))\n (wire 2 (0 6) (1 6) (1 5) (2 5) (2 8) (1 8) (5 8))\n (wire 3 (0 9) (1 9) (1 10) (5 10))\n (track 2 2)\n (wire 4 (0 3) (3 3) (3 2) (5 2))\n (loose 5)\n)\n") ≡ broken-at 2
 unfolding computed
 untrue-sum = refl
+
+-- the sum rule adds weights: 7 + 2, and not the needed rows, 2 + 2; a lighter choice is sound too
+pub sums-by-weights :
+    (judge (weightedJob 7) (bytes "(layout\n (track 1 9)\n (wire 2 (0 2) (1 2) (1 3) (3 3))\n (wire 3 (0 4) (1 4) (1 5) (3 5))\n (loose 1)\n)\n") ≡ sound-text) ×
+    (judge (weightedJob 7) (bytes "(layout\n (track 1 4)\n (wire 2 (0 2) (1 2) (1 3) (3 3))\n (wire 3 (0 4) (1 4) (1 5) (3 5))\n (loose 1)\n)\n") ≡ broken-at 2) ×
+    (judge (weightedJob 7) (bytes "(layout\n (track 1 6)\n (wire 1 (0 1) (1 1) (1 6) (3 6))\n (loose 2)\n (loose 3)\n)\n") ≡ sound-text)
+unfolding computed
+sums-by-weights = (refl, refl, refl)
 
 -- a false sum and a wire drawn on another track: the first
 pub two-breaches : judge workedJob (bytes "(layout\n (track 1 8)\n (wire 1 (0 2) (1 2) (1 4) (5 4))\n (wire 2 (0 6) (1 6) (1 5) (2 5) (2 8) (1 8) (5 8))\n (wire 3 (0 9) (1 9) (1 10) (5 10))\n (track 2 2)\n (wire 4 (0 3) (1 3) (1 2) (5 2))\n (loose 5)\n)\n") ≡ broken-at 2

@@ -15,7 +15,7 @@ use Rattle.board.specs.Tests.{isOn}
 use Rattle.board.proofs.ExactTests.{listed-on}
 use Rattle.layout.specs.Tree.{Wire, DrawnTrack, Line, opens, track, wire, loose, closes}
 use Rattle.layout.specs.LayoutText.{wiresThen, tracksThen, looseThen}
-use Rattle.sound.specs.Wires.{worthOf, sumOver, wireNumbers, trackNumbers, wiresSum}
+use Rattle.sound.specs.Wires.{weightOf, sumOver, wireNumbers, trackNumbers, wiresSum}
 use Rattle.drc.specs.Standing.{Above, beforeLayout, inLayout, behindLayout, withLine, numbersAbove}
 use Rattle.drc.specs.Judge.{noneLoose, endsTrack, isInTurn, isOpening, isInPlace, isTrueSum, keepsRules, sound-text, atTextEnd, judgeFrom}
 use Rattle.drc.proofs.Lines.{ofForm}
@@ -50,7 +50,7 @@ module _ (job : Job) where
   sum-is : (t s sum : ℕ) (earlier : List ℕ) (vs : List Wire) (trs : List DrawnTrack) (ks : List ℕ) → KeptTracks job t earlier trs →
       isTrueSum job t s sum (ofForm (wiresThen vs (tracksThen trs (endLines ks)))) ≡ true → sum + wiresSum job vs ≡ s
   unfolding isTrueSum endsTrack wiresThen tracksThen looseThen wiresSum sumOver
-  sum-is t s sum earlier (v ∷ vs) trs ks k h = omega (arith, sum-is t s (sum + worthOf job (v .number)) earlier vs trs ks k h)
+  sum-is t s sum earlier (v ∷ vs) trs ks k h = omega (arith, sum-is t s (sum + weightOf job (v .number)) earlier vs trs ks k h)
   sum-is t s sum earlier [] (tr ∷ trs) ks k h =
       let count = tracks-count job (suc t) (earlier ++ wireNumbers (tr .wires)) trs (k .3) in
       let x = and-both (eqb (tr .track) (suc t)) (leb (tr .track) (job .board .tracks)) (eq-eqb (tr .track) (suc t) (k .0))

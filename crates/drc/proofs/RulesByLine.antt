@@ -17,7 +17,7 @@ use Rattle.board.specs.Tests.{isOn}
 use Rattle.board.proofs.ExactTests.{on-listed}
 use Rattle.layout.specs.Tree.{Wire, DrawnTrack, Line, opens, track, wire, loose, closes}
 use Rattle.layout.specs.LayoutText.{wiresThen, tracksThen, looseThen}
-use Rattle.sound.specs.Wires.{worthOf, sumOver, wireNumbers, trackNumbers, wiresSum}
+use Rattle.sound.specs.Wires.{weightOf, sumOver, wireNumbers, trackNumbers, wiresSum}
 use Rattle.drc.specs.Standing.{Above, beforeLayout, inLayout, withLine, numbersAbove, CanStand, opening-first, track-in-turn, wire-under-track, loose-behind-tracks, closing-behind-tracks}
 use Rattle.drc.specs.Judge.{endsTrack, isInPlace, isTrueSum, keepsRules, sound-text, atTextEnd, judgeFrom}
 use Rattle.drc.proofs.Lines.{ofForm}
@@ -72,7 +72,7 @@ module _ (job : Job) where
   sum-kept : (t s sum : ℕ) (vs : List Wire) (trs : List DrawnTrack) (ks : List ℕ) → sum + wiresSum job vs ≡ s →
       isTrueSum job t s sum (ofForm (wiresThen vs (tracksThen trs (endLines ks)))) ≡ true
   unfolding isTrueSum wiresThen tracksThen looseThen wiresSum sumOver
-  sum-kept t s sum (v ∷ vs) trs ks e = sum-kept t s (sum + worthOf job (v .number)) vs trs ks (omega (arith, e))
+  sum-kept t s sum (v ∷ vs) trs ks e = sum-kept t s (sum + weightOf job (v .number)) vs trs ks (omega (arith, e))
   sum-kept t s sum [] (tr ∷ trs) ks e = sum-ended s sum (not (endsTrack job t (track (tr .track) (tr .sum)))) (omega (arith, e))
   sum-kept t s sum [] [] (k ∷ ks) e = sum-ended s sum (not (endsTrack job t (loose k))) (omega (arith, e))
   sum-kept t s sum [] [] [] e = sum-ended s sum (not (endsTrack job t closes)) (omega (arith, e))

@@ -9,7 +9,7 @@ use lib.Dec.{eqb}
 use borrow.Author.Tests.{eqb-false, ne-eqb, not-false}
 use Rattle.board.specs.Job.{Job}
 use Rattle.layout.specs.Tree.{Wire, Line, opens, track, wire, loose, closes}
-use Rattle.sound.specs.Wires.{worthOf, sumOver, wireNumbers, wiresSum}
+use Rattle.sound.specs.Wires.{weightOf, sumOver, wireNumbers, wiresSum}
 use Rattle.drc.specs.Standing.{inLayout}
 use Rattle.drc.specs.Breach.{EndsWires, next-track, first-loose, last-line, FalseSum}
 use Rattle.drc.specs.Judge.{noneLoose, endsTrack, isInTurn, isInPlace, isTrueSum}
@@ -57,7 +57,7 @@ module _ (job : Job) (u s : ℕ) where
   sum-fails sum (some (loose k) ∷ ls) f = ends-sum sum (loose k) ls first-loose f
   sum-fails sum (some closes ∷ ls) f = ends-sum sum closes ls last-line f
   sum-fails sum (some (wire w) ∷ ls) f =
-      let r = sum-fails (sum + worthOf job (w .number)) ls f in
+      let r = sum-fails (sum + weightOf job (w .number)) ls f in
       record {
         wires = w ∷ r .wires;
         next = r .next;
@@ -65,7 +65,7 @@ module _ (job : Job) (u s : ℕ) where
         lines-below = ap (λ (l : List (Option Line)). some (wire w) ∷ l) (r .lines-below);
         ends-wires = r .ends-wires;
         ends = r .ends;
-        differs = λ (e : sum + (worthOf job (w .number) + sumOver (worthOf job) (wireNumbers (r .wires))) ≡ s). r .differs (omega arith);
+        differs = λ (e : sum + (weightOf job (w .number) + sumOver (weightOf job) (wireNumbers (r .wires))) ≡ s). r .differs (omega arith);
       }
 
   pub fails-sum : (earlier : List ℕ) (ls : List (Option Line)) → isTrueSum job u s 0 ls ≡ false → FalseSum job earlier u s ls
@@ -92,7 +92,7 @@ module _ (job : Job) (u s : ℕ) where
   unfolding isTrueSum wiresSum sumOver
   differing-fails sum [] x ls n c d = ended-fails sum x ls n c (λ (e : sum ≡ s). d (omega arith))
   differing-fails sum (w ∷ ws) x ls n c d =
-      differing-fails (sum + worthOf job (w .number)) ws x ls n c (λ (e : sum + worthOf job (w .number) + sumOver (worthOf job) (wireNumbers ws) ≡ s). d (omega arith))
+      differing-fails (sum + weightOf job (w .number)) ws x ls n c (λ (e : sum + weightOf job (w .number) + sumOver (weightOf job) (wireNumbers ws) ≡ s). d (omega arith))
 
   pub false-sum-fails : (earlier : List ℕ) (ls : List (Option Line)) → FalseSum job earlier u s ls → isTrueSum job u s 0 ls ≡ false
   false-sum-fails earlier ls r =

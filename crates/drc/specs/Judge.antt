@@ -9,7 +9,7 @@ use Rattle.board.specs.Job.{Job}
 use Rattle.board.specs.Placement.{Placement, bottom}
 use Rattle.board.specs.Tests.{isLong, isShort, isClear, isOn, isReady}
 use Rattle.layout.specs.Tree.{Wire, Line, opens, track, wire, loose, closes}
-use Rattle.sound.specs.Wires.{worthOf, wireNumbers}
+use Rattle.sound.specs.Wires.{weightOf, wireNumbers}
 use Rattle.drc.specs.Standing.{linesRead, Above, beforeLayout, inLayout, behindLayout, withLine, numbersAbove}
 use Rattle.drc.specs.Covers.{drawnBy, coversOf}
 
@@ -57,7 +57,7 @@ isInPlace job behindLayout x = false
 unfoldable pub isTrueSum : Job → ℕ → ℕ → ℕ → List (Option Line) → Bool
 isTrueSum job t s sum [] = true
 isTrueSum job t s sum (none ∷ ls) = true
-isTrueSum job t s sum (some (wire w) ∷ ls) = isTrueSum job t s (sum + worthOf job (w .number)) ls
+isTrueSum job t s sum (some (wire w) ∷ ls) = isTrueSum job t s (sum + weightOf job (w .number)) ls
 isTrueSum job t s sum (some opens ∷ ls) = true
 isTrueSum job t s sum (some (track u v) ∷ ls) = not (endsTrack job t (track u v)) || eqb sum s
 isTrueSum job t s sum (some (loose k) ∷ ls) = not (endsTrack job t (loose k)) || eqb sum s

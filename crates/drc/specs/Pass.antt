@@ -10,7 +10,7 @@ use Rattle.board.specs.Job.{Job}
 use Rattle.board.specs.Placement.{Placement, bottom}
 use Rattle.board.specs.Tests.{isOn}
 use Rattle.layout.specs.Tree.{Wire, Line, opens, track, wire, loose, closes}
-use Rattle.sound.specs.Wires.{worthOf}
+use Rattle.sound.specs.Wires.{weightOf}
 use Rattle.drc.specs.Standing.{linesRead}
 use Rattle.drc.specs.Covers.{drawnBy}
 use Rattle.drc.specs.Judge.{isInTurn, isOpening, isSoundPlace, isUnlined, Verdict, sound-text, broken-at}
@@ -67,7 +67,7 @@ addWire job n w p m =
       track = m .track;
       line = m .line;
       printed = m .printed;
-      sum = m .sum + worthOf job (w .number);
+      sum = m .sum + weightOf job (w .number);
       earlier = m .earlier;
       lined = m .lined ++ (w .number ∷ []);
       lowest = lowestOf (m .lowest) p;

@@ -7,7 +7,7 @@ use lib.ListN.{length, getD, take, replicate}
 use Rattle.board.specs.Job.{Job}
 use Rattle.board.specs.Accepted.{AcceptedJob}
 use Rattle.board.specs.Unbeaten.{FilledTrack}
-use Rattle.board.proofs.JobWorth.{job-worth}
+use Rattle.board.proofs.JobWeight.{job-weight}
 use Rattle.planning.specs.Plan.{planOf}
 use Rattle.planning.specs.Loose.{sumOfTracks}
 use Rattle.planning.proofs.Balance.{sums-add-up}
@@ -46,6 +46,6 @@ pub added-plan : (job : Job) → addedUp (jobPlanOf job .sums) ≡ sumOfTracks (
 unfolding jobPlanOf storedPlan
 added-plan job = added-tracks (planOf job) (128 - length (planOf job))
 
--- ---- the sums are within what the nets of the job are worth
+-- ---- the sums are within the weights of the nets of the job
 pub added-most : (job : Job) → AcceptedJob job → addedUp (jobPlanOf job .sums) ≤ 524288
-added-most job a = omega (arith, added-plan job, sums-add-up job a, job-worth job a)
+added-most job a = omega (arith, added-plan job, sums-add-up job a, job-weight job a)

@@ -21,7 +21,7 @@ use Rattle.lines.proofs.Tokens.{tokened}
 use Rattle.jobfile.specs.Forms.{noWord, consNumber, arguments}
 use Rattle.forms.specs.Arguments.{valueThen, argumentOf, argumentAt, onlyClosing}
 use Rattle.forms.specs.declared.Argument.{Argument}
-use Rattle.forms.specs.declared.Argument.the-variants.{Value, Missing}
+use Rattle.forms.specs.declared.Argument.the-variants.{Value, Closing, Missing}
 
 -- the words at a token that was read
 pub token-is : (s : List ℕ) (at : ℕ) (r : Token) → r ≡ tokenAt s at → Tokened s at r
@@ -49,13 +49,15 @@ unfolding asNumber valueThen
 bad-is none next e = refl
 bad-is (some n) next e = cc
 
--- k further numbers behind the one that was read
+-- at most k further numbers behind the one that was read; nothing behind the closing bracket
 unfoldable pub argumentThen : List ℕ → ℕ → Argument → Option (List ℕ)
 argumentThen s k (Value v next) = consNumber (some v) (arguments k (lineWords (drop next s)))
+argumentThen s k (Closing next) = cond (noWord (lineWords (drop next s))) (some []) none
 argumentThen s k Missing = none
 
 abbrev pub InLine : List ℕ → Argument → Type 0
 InLine s (Value v next) = next ≤ length s
+InLine s (Closing next) = next ≤ length s
 InLine s Missing = Unit {0}
 
 -- the number at a place decides, with what stands behind it, how many numbers stand there
@@ -63,17 +65,18 @@ pub record Argued (s : List ℕ) (at : ℕ) (r : Argument) : Type 0 where
   pub first : (k : ℕ) → arguments (suc k) (lineWords (drop at s)) ≡ argumentThen s k r
   pub within : InLine s r
 
+-- a word that is no bracket
 word-argued : (s : List ℕ) (at from to : ℕ) (o : Option ℕ) → Tokened s at (Word from to) →
     number 5 (take (to - from) (drop from s)) ≡ o → Argued s at (valueThen o to)
 unfolding tokenWords arguments argumentThen consNumber valueThen
-word-argued s at from to none t e = record { first = λ k. rw (t .words, e); within = tt }
-word-argued s at from to (some v) t e = record { first = λ k. rw (t .words, e); within = t .placed .2 }
+word-argued s at from to none t e = record { first = λ k. rw (t .words, word-is-none s at from to 41 (t .placed) refl, e); within = tt }
+word-argued s at from to (some v) t e = record { first = λ k. rw (t .words, word-is-none s at from to 41 (t .placed) refl, e); within = t .placed .2 }
 
 token-argued : (s : List ℕ) (at : ℕ) (r : Token) → Tokened s at r → Argued s at (argumentOf s r)
-unfolding tokenWords arguments argumentThen consNumber number allOf argumentOf
+unfolding tokenWords arguments argumentThen consNumber number allOf argumentOf same
 token-argued s at Nothing t = record { first = λ k. rw (t .words); within = tt }
 token-argued s at (Open next) t = record { first = λ k. rw (t .words); within = tt }
-token-argued s at (Shut next) t = record { first = λ k. rw (t .words); within = tt }
+token-argued s at (Shut next) t = record { first = λ k. rw (t .words); within = t .placed .1 }
 token-argued s at (Word from to) t = word-argued s at from to (number 5 (take (to - from) (drop from s))) t refl
 
 pub argued : (s : List ℕ) (at : ℕ) → Argued s at (argumentAt s at)
@@ -105,52 +108,58 @@ unfolding prefixed
 prefixed-last xs true = rw append-nil
 prefixed-last xs false = refl
 
--- of k numbers from the place `at` on, the first j are in n, and the others begin at p
-pub record ArgumentsRead (s : List ℕ) (at k : ℕ) (n : List ℕ) (p j : ℕ) : Type 0 where
-  pub some-left : j ≤ k
+-- of at most six numbers from the place `at` on, the first j are in n, and the others begin at p
+pub record ArgumentsRead (s : List ℕ) (at : ℕ) (n : List ℕ) (p j : ℕ) : Type 0 where
+  pub some-left : j ≤ 6
   pub inside : p ≤ length s
-  pub room : length n ≡ 5
-  pub rest : arguments k (lineWords (drop at s)) ≡ prefixed (take j n) (arguments (k - j) (lineWords (drop p s)))
+  pub room : length n ≡ 6
+  pub rest : arguments 6 (lineWords (drop at s)) ≡ prefixed (take j n) (arguments (6 - j) (lineWords (drop p s)))
 
-pub gathered-none : (s : List ℕ) (at k : ℕ) (n : List ℕ) → at ≤ length s → length n ≡ 5 → ArgumentsRead s at k n at 0
-gathered-none s at k n h r =
-    let e : k - 0 ≡ k = omega arith in
-    record { some-left = omega arith; inside = h; room = r; rest = rw e (prefixed-nil (arguments k (lineWords (drop at s)))) }
+pub gathered-none : (s : List ℕ) (at : ℕ) (n : List ℕ) → at ≤ length s → length n ≡ 6 → ArgumentsRead s at n at 0
+gathered-none s at n h r =
+    let e : 6 - 0 ≡ 6 = omega arith in
+    record { some-left = omega arith; inside = h; room = r; rest = rw e (prefixed-nil (arguments 6 (lineWords (drop at s)))) }
 
-pub gathered-more : {s : List ℕ} {at k : ℕ} {n : List ℕ} {p j v next : ℕ} → ArgumentsRead s at k n p j → j < k → k ≤ 5 →
-    Argued s p (Value v next) → ArgumentsRead s at k (set n j v) next (j + 1)
+pub gathered-more : {s : List ℕ} {at : ℕ} {n : List ℕ} {p j v next : ℕ} → ArgumentsRead s at n p j → j < 6 →
+    Argued s p (Value v next) → ArgumentsRead s at (set n j v) next (j + 1)
 unfolding argumentThen
-gathered-more {s} {at} {k} {n} {p} {j} {v} {next} g h m a =
-    let e : k - j ≡ suc (k - (j + 1)) = omega arith in
+gathered-more {s} {at} {n} {p} {j} {v} {next} g h a =
+    let e : 6 - j ≡ suc (6 - (j + 1)) = omega arith in
     record {
       some-left = omega arith;
       inside = a .within;
       room = length-set n j v ∙ g .room;
       rest =
           g .rest
-          ∙ rw (e, a .first (k - (j + 1)), add-one j, take-suc-set n j v (omega arith))
-          (prefixed-snoc (take j n) v (arguments (k - suc j) (lineWords (drop next s))));
+          ∙ rw (e, a .first (6 - (j + 1)), add-one j, take-suc-set n j v (omega arith))
+          (prefixed-snoc (take j n) v (arguments (6 - suc j) (lineWords (drop next s))));
     }
-
-pub gathered-stopped : {s : List ℕ} {at k : ℕ} {n : List ℕ} {p j : ℕ} → ArgumentsRead s at k n p j → j < k → Argued s p Missing →
-    none ≡ arguments k (lineWords (drop at s))
-unfolding argumentThen prefixed
-gathered-stopped {s} {at} {k} {n} {p} {j} g h a =
-    let e : k - j ≡ suc (k - (j + 1)) = omega arith in
-    sym (g .rest ∙ rw (e, a .first (k - (j + 1))))
 
 none-after : (ws : List (List ℕ)) → arguments 0 ws ≡ cond (onlyClosing ws) (some []) none
 unfolding arguments onlyClosing
 none-after [] = refl
 none-after (w ∷ ws) = refl
 
--- behind the last number
-pub gathered-all : {s : List ℕ} {at k : ℕ} {n : List ℕ} {p j : ℕ} (t : Bool) → ArgumentsRead s at k n p j → k ≤ j →
-    t ≡ onlyClosing (lineWords (drop p s)) → cond t (some (take k n)) none ≡ arguments k (lineWords (drop at s))
-gathered-all {s} {at} {k} {n} {p} {j} t g h c =
-    let e : k - j ≡ 0 = omega arith in
-    let f : j ≡ k = omega arith in
-    sym (g .rest ∙ rw (e, f, none-after (lineWords (drop p s)), c) (prefixed-last (take k n) (onlyClosing (lineWords (drop p s)))))
+-- behind the last number: the closing bracket or something else stands there, or six are read
+pub gathered-closed : {s : List ℕ} {at : ℕ} {n : List ℕ} {p j next : ℕ} (t : Bool) → ArgumentsRead s at n p j → j < 6 → Argued s p (Closing next) →
+    t ≡ noWord (lineWords (drop next s)) → cond t (some (take j n)) none ≡ arguments 6 (lineWords (drop at s))
+unfolding argumentThen
+gathered-closed {s} {at} {n} {p} {j} {next} t g h a c =
+    let e : 6 - j ≡ suc (6 - (j + 1)) = omega arith in
+    sym (g .rest ∙ rw (e, a .first (6 - (j + 1)), c) (prefixed-last (take j n) (noWord (lineWords (drop next s)))))
+
+pub gathered-missing : {s : List ℕ} {at : ℕ} {n : List ℕ} {p j : ℕ} → ArgumentsRead s at n p j → j < 6 → Argued s p Missing →
+    none ≡ arguments 6 (lineWords (drop at s))
+unfolding argumentThen prefixed
+gathered-missing {s} {at} {n} {p} {j} g h a =
+    let e : 6 - j ≡ suc (6 - (j + 1)) = omega arith in
+    sym (g .rest ∙ rw (e, a .first (6 - (j + 1))))
+
+pub gathered-all : {s : List ℕ} {at : ℕ} {n : List ℕ} {p j : ℕ} (t : Bool) → ArgumentsRead s at n p j → 6 ≤ j →
+    t ≡ onlyClosing (lineWords (drop p s)) → cond t (some (take j n)) none ≡ arguments 6 (lineWords (drop at s))
+gathered-all {s} {at} {n} {p} {j} t g h c =
+    let e : 6 - j ≡ 0 = omega (arith, g .some-left) in
+    sym (g .rest ∙ rw (e, none-after (lineWords (drop p s)), c) (prefixed-last (take j n) (onlyClosing (lineWords (drop p s)))))
 
 -- whether a closing bracket is the last token
 

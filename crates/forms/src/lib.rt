@@ -1,29 +1,32 @@
 // The form that a line of a job is: its tokens are read one after another, and the word behind the opening bracket is looked up in
 // the table of keywords.
 use jobfile::Form;
+use jobfile::Optional;
 use keywords::Vocabulary;
 use lines::Token;
 use text::Number;
 ghost use mathlib.Core.Path.{_≡_};
 ghost use Prim.Native.Nat.{_≤_};
-ghost use lib.ListN.{length, drop};
+ghost use lib.ListN.{length, take, drop};
 ghost use Rattle.lines.specs.Tokens.{lineWords};
-ghost use Rattle.jobfile.specs.Forms.{noWord, ifLast, arguments, formAfter, formOpened, readForm};
-ghost use Rattle.forms.specs.Arguments.{argumentAt, onlyClosing, argumentsOf, formMade};
+ghost use Rattle.jobfile.specs.Forms.{noWord, ifLast, formMade, formAfter, formOpened, readForm};
+ghost use Rattle.forms.specs.Arguments.{argumentAt, onlyClosing, ArgumentsAre};
 
-// One number of a form, with the byte behind it; or something else stands there.
+// What stands where a form may have a number: one, with the byte behind it; a closing bracket, with the byte behind it; or something else.
 enum Argument {
     Value(usize, usize),
+    Closing(usize),
     Missing,
 }
 
-// The numbers of a form, from the first on; complete where they are as many as asked and a closing bracket ends the line.
+// The numbers of a form, so many from the first on; complete where a closing bracket behind them ends the line.
 struct Arguments {
     pub complete: bool,
-    pub numbers: [usize; 5],
+    pub count: usize,
+    pub numbers: [usize; 6],
 }
 
-// How many numbers stand behind each keyword of the table: board, rows, tracks, net, block.
+// How many numbers stand behind each keyword of the table: board, rows, tracks, net, block. A net may have one more.
 const COUNTS: [usize; 5] = [0, 1, 1, 5, 3];
 
 // Whether no token is left.
@@ -50,7 +53,7 @@ fn if_last(s: &[u8], at: usize, form: Form) -> Form
     Form::Other
 }
 
-// The number at a place.
+// The number or the closing bracket at a place.
 fn read_argument(s: &[u8], at: usize) -> Argument
     requires { ⌜ at ≤ length (now s) ⌝ }
     ensures { λ r. ⌜ r ≡ argumentAt (now (s .entry)) at ⌝ }
@@ -60,8 +63,8 @@ fn read_argument(s: &[u8], at: usize) -> Argument
             Number::Value(v) => Argument::Value(v, to),
             Number::Bad => Argument::Missing,
         },
+        Token::Shut(next) => Argument::Closing(next),
         Token::Open(_) => Argument::Missing,
-        Token::Shut(_) => Argument::Missing,
         Token::Nothing => Argument::Missing,
     }
 }
@@ -79,23 +82,31 @@ fn is_closed(s: &[u8], at: usize) -> bool
     }
 }
 
-// The k numbers from a place on, and the closing bracket behind them.
-fn read_arguments(s: &[u8], at: usize, k: usize) -> Arguments
-    requires { ⌜ (at ≤ length (now s)) × (k ≤ 5) ⌝ }
-    ensures { λ r. ⌜ argumentsOf k r ≡ arguments k (lineWords (drop at (now (s .entry)))) ⌝ }
+// The numbers from a place on, six at most, and whether the closing bracket stands behind them.
+fn read_arguments(s: &[u8], at: usize) -> Arguments
+    requires { ⌜ at ≤ length (now s) ⌝ }
+    ensures { λ r. ⌜ ArgumentsAre (lineWords (drop at (now (s .entry)))) r ⌝ }
 {
-    let mut numbers = [0usize; 5];
+    let mut numbers = [0usize; 6];
     let mut p = at;
     let mut j = 0;
-    while j < k {
+    while j < 6 {
         match read_argument(s, p) {
             Argument::Value(v, next) => {
                 numbers[j] = v;
                 p = next;
             }
+            Argument::Closing(next) => {
+                return Arguments {
+                    complete: at_end(s, next),
+                    count: j,
+                    numbers,
+                };
+            }
             Argument::Missing => {
                 return Arguments {
                     complete: false,
+                    count: j,
                     numbers,
                 };
             }
@@ -104,18 +115,26 @@ fn read_arguments(s: &[u8], at: usize, k: usize) -> Arguments
     }
     Arguments {
         complete: is_closed(s, p),
+        count: j,
         numbers,
     }
 }
 
-// The form that keyword i makes of its numbers.
-fn make_form(i: usize, n: [usize; 5]) -> Form
-    ensures { λ r. ⌜ r ≡ formMade i n ⌝ }
+// The form that keyword i makes of so many numbers.
+fn make_form(i: usize, count: usize, n: [usize; 6]) -> Form
+    requires { ⌜ (1 ≤ i) × (i ≤ 4) × (count ≤ 6) ⌝ }
+    ensures { λ r. ⌜ r ≡ formMade i (take count n) ⌝ }
 {
+    if (i == 3) & (count == 6) {
+        return Form::Net(n[0], n[1], n[2], n[3], n[4], Optional::Written(n[5]));
+    }
+    if count != COUNTS[i] {
+        return Form::Other;
+    }
     match i {
         1 => Form::Rows(n[0]),
         2 => Form::Tracks(n[0]),
-        3 => Form::Net(n[0], n[1], n[2], n[3], n[4]),
+        3 => Form::Net(n[0], n[1], n[2], n[3], n[4], Optional::LeftOut),
         4 => Form::Block(n[0], n[1], n[2]),
         _ => Form::Other,
     }
@@ -132,12 +151,12 @@ fn form_after(s: &[u8], at: usize, i: usize) -> Form
     if 4 < i {
         return Form::Other;
     }
-    let a = read_arguments(s, at, COUNTS[i]);
+    let a = read_arguments(s, at);
     if !a.complete {
         return Form::Other;
     }
     let numbers = a.numbers;
-    make_form(i, numbers)
+    make_form(i, a.count, numbers)
 }
 
 // The form of what stands behind an opening bracket.

@@ -46,7 +46,7 @@ fn no_candidates() -> Candidates
         count: 0,
         net: zeros,
         need: zeros,
-        worth: zeros,
+        weight: zeros,
         first: zeros,
         last: zeros,
     }
@@ -82,7 +82,7 @@ pub fn gather(
         flag_part(map, any, tops, at, flags);
         found.net[at] = i;
         found.need[at] = tops.need;
-        found.worth[at] = tops.worth;
+        found.weight[at] = tops.weight;
         found.first[at] = tops.first.0;
         found.last[at] = tops.last.0;
         found.count = at + 1;

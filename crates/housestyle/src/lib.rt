@@ -25,7 +25,7 @@ pub fn house(job: &[u8], out: &mut [u8]) -> TextAnswer
         return TextAnswer::Refused(outcome);
     }
     let stored = answer.job;
-    let mut fixed = [0u8; 27792];
+    let mut fixed = [0u8; 28564];
     let needed = housewriter::write_house(stored, &mut fixed);
     answers::put_answer(&fixed[..needed], out)
 }

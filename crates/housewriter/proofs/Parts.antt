@@ -32,11 +32,12 @@ one-ended : (l : List ℕ) (ls : List (List ℕ)) → endedLines (l ∷ ls) ≡ 
 unfolding endedLines
 one-ended l ls = sym (append-assoc l (10 ∷ []) (endedLines ls))
 
-nets-ended : (ns : List Net) (ls : List (List ℕ)) → endedLines (map netLine ns ++ ls) ≡ netsText ns ++ endedLines ls
+nets-ended : (board : Board) (ns : List Net) (ls : List (List ℕ)) → endedLines (map (netLine board) ns ++ ls) ≡ netsText board ns ++ endedLines ls
 unfolding netsText
-nets-ended [] ls = refl
-nets-ended (n ∷ ns) ls =
-    one-ended (netLine n) (map netLine ns ++ ls) ∙ ap (λ l. ended (netLine n) ++ l) (nets-ended ns ls) ∙ sym (append-assoc (ended (netLine n)) (netsText ns) (endedLines ls))
+nets-ended board [] ls = refl
+nets-ended board (n ∷ ns) ls =
+    one-ended (netLine board n) (map (netLine board) ns ++ ls) ∙ ap (λ l. ended (netLine board n) ++ l) (nets-ended board ns ls) ∙
+    sym (append-assoc (ended (netLine board n)) (netsText board ns) (endedLines ls))
 
 blocks-ended : (bs : List Block) (ls : List (List ℕ)) → endedLines (map blockLine bs ++ ls) ≡ blocksText bs ++ endedLines ls
 unfolding blocksText
@@ -49,17 +50,17 @@ unfolding endedLines
 last-ended = refl
 
 pub house-parts : (job : model.Job) → houseText job ≡
-    topText (job .board) ++ (netsText (job .nets) ++ (blocksText (sortBlocks (job .blocks)) ++ ended closingLine))
+    topText (job .board) ++ (netsText (job .board) (job .nets) ++ (blocksText (sortBlocks (job .blocks)) ++ ended closingLine))
 unfolding houseText houseLines topText
 house-parts job =
     let ls = closingLine ∷ [] in
     let bs = map blockLine (sortBlocks (job .blocks)) ++ ls in
-    let ns = map netLine (job .nets) ++ bs in
+    let ns = map (netLine (job .board)) (job .nets) ++ bs in
     let rows = innerLine rowsWord (job .board .rows ∷ []) in
     let tracks = innerLine tracksWord (job .board .tracks ∷ []) in
-    let behind = netsText (job .nets) ++ (blocksText (sortBlocks (job .blocks)) ++ ended closingLine) in
+    let behind = netsText (job .board) (job .nets) ++ (blocksText (sortBlocks (job .blocks)) ++ ended closingLine) in
     let tail : endedLines ns ≡ behind =
-    nets-ended (job .nets) bs ∙ ap (λ l. netsText (job .nets) ++ l) (blocks-ended (sortBlocks (job .blocks)) ls ∙ ap (λ l. blocksText (sortBlocks (job .blocks)) ++ l) last-ended) in
+    nets-ended (job .board) (job .nets) bs ∙ ap (λ l. netsText (job .board) (job .nets) ++ l) (blocks-ended (sortBlocks (job .blocks)) ls ∙ ap (λ l. blocksText (sortBlocks (job .blocks)) ++ l) last-ended) in
     one-ended (openingLine boardWord) (rows ∷ tracks ∷ ns) ∙
     ap (λ l. ended (openingLine boardWord) ++ l) (one-ended rows (tracks ∷ ns) ∙ ap (λ l. ended rows ++ l) (one-ended tracks ns ∙ ap (λ l. ended tracks ++ l) tail)) ∙
     three (ended (openingLine boardWord)) (ended rows) (ended tracks) behind
@@ -70,16 +71,18 @@ house-parts job =
 -- ---- nets and blocks one by one
 
 -- the nets from place i on, of the first n
-abbrev pub netsOn : List Net → ℕ → ℕ → List ℕ
-netsOn nets n i = netsText (slice i n nets)
+abbrev pub netsOn : Board → List Net → ℕ → ℕ → List ℕ
+netsOn board nets n i = netsText board (slice i n nets)
 
-pub nets-last : (nets : List Net) (n i : ℕ) → i ≡ n → netsOn nets n i ≡ []
+pub nets-last : (board : Board) (nets : List Net) (n i : ℕ) → i ≡ n → netsOn board nets n i ≡ []
 unfolding netsText
-nets-last nets n i e = rw (e, slice-empty n nets)
+nets-last board nets n i e = rw (e, slice-empty n nets)
 
-pub nets-step : (nets : List Net) (n i : ℕ) → i < n → n ≤ length nets → netsOn nets n i ≡ ended (netLine (getD nets i noNet)) ++ netsOn nets n (i + 1)
+pub nets-step : (board : Board) (nets : List Net) (n i : ℕ) → i < n → n ≤ length nets →
+    netsOn board nets n i ≡ ended (netLine board (getD nets i noNet)) ++ netsOn board nets n (i + 1)
 unfolding netsText
-nets-step nets n i h l = ap netsText (slice-cons i n nets noNet h l) ∙ ap (λ k. ended (netLine (getD nets i noNet)) ++ netsOn nets n k) (sym (add-one i))
+nets-step board nets n i h l =
+    ap (netsText board) (slice-cons i n nets noNet h l) ∙ ap (λ k. ended (netLine board (getD nets i noNet)) ++ netsOn board nets n k) (sym (add-one i))
 
 abbrev pub keysOn : List ℕ → ℕ → ℕ → List ℕ
 keysOn keys n i = blocksText (map keyBlock (slice i n keys))

@@ -13,9 +13,9 @@ unfoldable pub topText : Board → List ℕ
 topText board = ended (openingLine boardWord) ++ (ended (innerLine rowsWord (board .rows ∷ [])) ++ ended (innerLine tracksWord (board .tracks ∷ [])))
 
 -- the lines of nets
-unfoldable pub netsText : List Net → List ℕ
-netsText [] = []
-netsText (n ∷ ns) = ended (netLine n) ++ netsText ns
+unfoldable pub netsText : Board → List Net → List ℕ
+netsText board [] = []
+netsText board (n ∷ ns) = ended (netLine board n) ++ netsText board ns
 
 -- the lines of blocks
 unfoldable pub blocksText : List Block → List ℕ

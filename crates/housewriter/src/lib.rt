@@ -25,14 +25,15 @@ fn put_top(out: &mut [u8], board: Board) -> usize
 // Writes the lines of the nets, in their order, which is by rising number.
 fn put_nets(out: &mut [u8], at: usize, job: StoredJob) -> usize
     requires { ⌜ AcceptedStored job ⌝ }
-    requires { ⌜ at + length (netsText (jobOf job .nets)) ≤ length (now out) ⌝ }
-    ensures { λ r. ⌜ WrittenAt at (netsText (jobOf job .nets)) (now (out .entry)) (now (out .exit)) r ⌝ }
+    requires { ⌜ at + length (netsText (job .board) (jobOf job .nets)) ≤ length (now out) ⌝ }
+    ensures { λ r. ⌜ WrittenAt at (netsText (job .board) (jobOf job .nets)) (now (out .entry)) (now (out .exit)) r ⌝ }
 {
+    let board = job.board;
     let nnets = job.nnets;
     let mut next = at;
     for i in 0..nnets {
         let net = job.nets[i];
-        next = joblines::put_net(out, next, net);
+        next = joblines::put_net(out, next, board, net);
     }
     next
 }

@@ -1,7 +1,7 @@
 -- Every job that read gives is accepted. Assumes nothing.
 use Prim.Native.Nat.{ℕ, _≤_, _<_}
 use mathlib.Core.Path.{_≡_, refl}
-use mathlib.Core.Logic.{⊎-elim}
+use mathlib.Core.Logic.{_⊎_, inl, inr, ⊎-elim}
 use mathlib.Core.Bool.{Bool, true, false, not}
 use mathlib.Core.List.{List, [], _∷_, List·Memᴰ·not-nil, List·Memᴰ·eq-of-singleton, List·Memᴰ·append-cases}
 use native.Mathlib.Omega.{arith}
@@ -10,18 +10,22 @@ use lib.ListN.{length, length-append}
 use borrow.Author.Tests.{leb-true, ltb-true}
 use Rattle.lists.specs.Lists.{Each, EachPair, allOf}
 use Rattle.lists.proofs.Laws.{Each-map, Each-of}
+use Rattle.board.specs.declared.Board.{Board}
 use Rattle.board.specs.declared.Net.{Net}
 use Rattle.board.specs.declared.Block.{Block}
 use Rattle.board.specs.Job.{Job}
-use Rattle.board.specs.Length.{lengthOf, shortest, needed}
+use Rattle.board.specs.Length.{upper, lower, span, plainLength, lengthOf, shortest, needed}
 use Rattle.board.specs.Accepted.{AcceptedJob, AcceptedNet}
 use Rattle.text.specs.Bytes.{lines}
+use Rattle.jobfile.specs.declared.Optional.{Optional}
+use Rattle.jobfile.specs.declared.Optional.the-variants.{LeftOut, Written}
 use Rattle.jobfile.specs.declared.Form.{Form}
 use Rattle.jobfile.specs.declared.Form.the-variants as Is
 use Rattle.jobfile.specs.declared.Outcome.{Outcome}
 use Rattle.jobfile.specs.declared.Outcome.the-variants.{TooLong, NotOfForm}
 use Rattle.jobfile.specs.Forms.{readForm}
-use Rattle.jobfile.specs.Read.{State, start, opened, sized, filled, closed, Next, go, stop, unless, atStart, atOpened, atSized, atFilled, netOf, blockOf, boardOf, emptyJob, withNet, withBlock, netInRange, blockInRange, lastNumber, pinsFree, addNet, addBlock, step, Read, accepted, refused, ended, follow, readFrom, readJob}
+use Rattle.jobfile.specs.Read.{State, start, opened, sized, filled, closed, Next, go, stop, unless, atStart, atOpened, atSized, atFilled, weightGiven, netGiven, blockOf, boardOf, emptyJob, withNet, withBlock, netInRange, blockInRange, lastNumber, pinsFree, testNet, isAbove, addNet, addBlock, step, Read, accepted, refused, ended, follow, readFrom, readJob}
+use Rattle.jobfile.specs.Faults.{WeightInRange}
 use Rattle.lists.proofs.Joins.{Each-each, EachPair-join}
 use Rattle.jobfile.proofs.Tests.{read-cases, within-is, differ-is, net-range-is, block-range-is, free-is, length-is}
 
@@ -59,11 +63,21 @@ last-most k (n ∷ ns) r a =
     let h = last-most (n .number) ns (r .1) (Each-map ns (λ m l. omega (arith, l)) (r .0)) in
     (omega (arith, h .0, a .0), (h .0, h .1))
 
-module _ (k : ℕ) (job : Job) (n : Net) (a : AcceptedJob job) where
+-- the weight of an accepted net
+abbrev Weighs : Board → Net → Type 0
+Weighs board n = (n .weight ≡ needed board n) ⊎ ((1 ≤ n .weight) × (n .weight ≤ 999))
+
+-- that of a line, where it is in range
+given-weighs : (board : Board) (i l r lo hi : ℕ) (w : Optional) → WeightInRange w → Weighs board (netGiven board i l r lo hi w)
+unfolding weightGiven needed shortest plainLength span upper lower
+given-weighs board i l r lo hi LeftOut h = inl refl
+given-weighs board i l r lo hi (Written w) h = inr h
+
+module _ (k : ℕ) (job : Job) (n : Net) (w : Optional) (weighs : WeightInRange w → Weighs (job .board) n) (a : AcceptedJob job) where
   record Facts : Type 0 where
-    ranges : netInRange (job .board) n ≡ true
+    ranges : netInRange (job .board) n w ≡ true
     few : ltb (length (job .nets)) 512 ≡ true
-    above : ltb (lastNumber 0 (job .nets)) (n .number) ≡ true
+    above : isAbove n (job .nets) ≡ true
     free : allOf (pinsFree n) (job .nets) ≡ true
     differ : not (eqb (n .left .0) (n .right .0)) ≡ true
     allowed : leb (lengthOf (job .board) n (shortest (job .board) n)) (n .max) ≡ true
@@ -72,15 +86,18 @@ module _ (k : ℕ) (job : Job) (n : Net) (a : AcceptedJob job) where
   new-net : Facts → AcceptedNet (job .board) n
   new-net t =
       let s = length-is (job .board) n .0 (t .allowed) in
+      let r = net-range-is (job .board) n w .0 (t .ranges) in
       record {
-        in-range = net-range-is (job .board) n .0 (t .ranges);
+        in-range = r .0;
         ends-differ = differ-is (n .left .0) (n .right .0) .0 (t .differ);
         some-shape = s .0;
         some-length = s .1;
         fits-board = leb-true _ _ (t .fits);
+        weight-is = weighs (r .1);
       }
 
   net-accepted : Facts → AcceptedJob (withNet job n)
+  unfolding isAbove
   net-accepted t =
       let m = last-most 0 (job .nets) (a .numbers-rise) (Each-each (job .nets) (λ x i. omega arith)) in
       let l = ltb-true (lastNumber 0 (job .nets)) (n .number) (t .above) in
@@ -102,8 +119,8 @@ module _ (k : ℕ) (job : Job) (n : Net) (a : AcceptedJob job) where
             (Each-map (job .nets) (λ m p. (p .1, tt)) pins);
       }
 
-  net-gives : Gives (addNet k n job)
-  unfolding addNet
+  net-gives : Gives (addNet k n w job)
+  unfolding addNet testNet
   net-gives =
       unless-gives _ _ _ (λ e3.
       unless-gives _ _ _ (λ e4.
@@ -202,7 +219,8 @@ step-gives k s (Is.Tracks t) g =
     sized-gives k s _ g (λ h r.
     unless-gives _ _ _ (λ e.
     go-gives (filled (emptyJob (boardOf h t))) (empty-accepted h t r (omega (arith, within-is _ _ t .0 e)))))
-step-gives k s (Is.Net i l r lo hi) g = filled-gives k s _ g (λ j a. net-gives k j (netOf i l r lo hi) a)
+step-gives k s (Is.Net i l r lo hi w) g =
+    filled-gives k s _ g (λ j a. net-gives k j (netGiven (j .board) i l r lo hi w) w (given-weighs (j .board) i l r lo hi w) a)
 step-gives k s (Is.Block t a b) g = filled-gives k s _ g (λ j c. block-gives k j (blockOf t a b) c)
 step-gives k s Is.Close g = filled-gives k s _ g (λ j a. go-gives (closed j) a)
 step-gives k s Is.Other g = stop-gives (NotOfForm k)

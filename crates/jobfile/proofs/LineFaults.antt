@@ -5,13 +5,14 @@ use mathlib.Core.List.{List, [], _∷_, _++_, List·Memᴰ, List·Memᴰ·head}
 use native.Mathlib.Omega.{arith}
 use lib.ListN.{length}
 use Rattle.board.specs.Job.{Job}
+use Rattle.jobfile.specs.declared.Optional.{Optional}
 use Rattle.jobfile.specs.declared.Form.{Form}
 use Rattle.jobfile.specs.declared.Form.the-variants as Is
 use Rattle.jobfile.specs.declared.Outcome.{Outcome}
 use Rattle.jobfile.specs.declared.Outcome.the-variants.{NotOfForm, OutOfRange}
-use Rattle.jobfile.specs.Read.{State, start, opened, sized, filled, closed, Next, go, stop, unless, atStart, atOpened, atSized, atFilled, within, netOf, blockOf, boardOf, emptyJob, addNet, addBlock, step}
+use Rattle.jobfile.specs.Read.{State, start, opened, sized, filled, closed, Next, go, stop, unless, atStart, atOpened, atSized, atFilled, within, netGiven, blockOf, boardOf, emptyJob, addNet, addBlock, step}
 use Rattle.jobfile.specs.Answers.{numberOf, lineOf, noJob}
-use Rattle.jobfile.specs.Faults.{withForm, jobIn, net, block, Ordered, MayFollow, NetFault, BlockFault, LineFault, not-of-form, rows-range, tracks-range, of-net, of-block}
+use Rattle.jobfile.specs.Faults.{withForm, jobIn, net, block, Ordered, MayFollow, NetFault, NotAbove, BlockFault, LineFault, not-of-form, rows-range, tracks-range, of-net, of-block}
 use Rattle.jobfile.proofs.Tests.{denied, within-is}
 use Rattle.jobfile.proofs.TestOrder.{Judged, judged-same, test, tested-judged}
 use Rattle.jobfile.proofs.NetFaults.{net-at, net-judged}
@@ -22,8 +23,7 @@ pub fault-at : (above : List Form) (k : ℕ) (f : Form) (o : Outcome) → LineFa
 fault-at above k f o (not-of-form x) = (refl, omega arith)
 fault-at above k f o (rows-range x) = (refl, omega arith)
 fault-at above k f o (tracks-range x) = (refl, omega arith)
-fault-at above k f o (of-net {i = i} {l = l} {r = r} {lo = lo} {hi = hi} x) =
-    let a = net-at (jobIn above) (netOf i l r lo hi) k o x in (a .0, omega arith)
+fault-at above k f o (of-net x) = let a = net-at x in (a .0, omega arith)
 fault-at above k f o (of-block {t = t} {a = a} {b = b} x) =
     let a = block-at (jobIn above) (blockOf t a b) k o x in (a .0, omega arith)
 
@@ -93,10 +93,10 @@ module _ (above : List Form) (k : ℕ) where
   tracks-only t h r o (not-of-form x) = absurd (x (h, r .0))
   tracks-only t h r o (tracks-range x) = List·Memᴰ·head refl
 
-  net-only : (i l r lo hi : ℕ) → Ordered [] above → (o : Outcome) → LineFault above k (Is.Net i l r lo hi) o →
-      NetFault (jobIn above) (netOf i l r lo hi) k o
-  net-only i l r lo hi a o (not-of-form x) = absurd (x a)
-  net-only i l r lo hi a o (of-net x) = x
+  net-only : (i l r lo hi : ℕ) (w : Optional) → Ordered [] above → (o : Outcome) → LineFault above k (Is.Net i l r lo hi w) o →
+      (let n = netGiven (jobIn above .board) i l r lo hi w in NetFault (NotAbove (jobIn above .nets) n) (jobIn above) n w k o)
+  net-only i l r lo hi w a o (not-of-form x) = absurd (x a)
+  net-only i l r lo hi w a o (of-net x) = x
 
   block-only : (t a b : ℕ) → Ordered [] above → (o : Outcome) → LineFault above k (Is.Block t a b) o →
       BlockFault (jobIn above) (blockOf t a b) k o
@@ -133,17 +133,17 @@ module _ (above : List Form) (k : ℕ) where
       (record { fails = λ e. tracks-range (denied _ (within-is 1 128 t) e); passes = λ e f. tracks-of-line f (within-is 1 128 t .0 e) }, λ e. tt)
       (tracks-only t h r)
 
-  net-line-judged : (i l r lo hi : ℕ) (job : Job) → LinesReach (filled job) above →
-      LineJudged (Is.Net i l r lo hi) (addNet k (netOf i l r lo hi) job)
+  net-line-judged : (i l r lo hi : ℕ) (w : Optional) (job : Job) → LinesReach (filled job) above →
+      LineJudged (Is.Net i l r lo hi w) (addNet k (netGiven (job .board) i l r lo hi w) w job)
   unfolding withForm
-  net-line-judged i l r lo hi job a =
-      let n = netOf i l r lo hi in
-      let f = Is.Net i l r lo hi in
+  net-line-judged i l r lo hi w job a =
+      let n = netGiven (jobIn above .board) i l r lo hi w in
+      let f = Is.Net i l r lo hi w in
       let G : State → Type 0 = λ s. LinesReach s (above ++ (f ∷ [])) in
-      subst (λ j. LineJudged (Is.Net i l r lo hi) (addNet k (netOf i l r lo hi) j)) (a .1)
-      (judged-same (NetFault (jobIn above) n k) (LineFault above k f) G (addNet k n (jobIn above))
-      (λ o x. of-net x) (net-only i l r lo hi (a .0))
-      (net-judged (jobIn above) n k G (ordered-item above f refl net (a .0), job-more noJob above f)))
+      subst (λ j. LineJudged (Is.Net i l r lo hi w) (addNet k (netGiven (j .board) i l r lo hi w) w j)) (a .1)
+      (judged-same (NetFault (NotAbove (jobIn above .nets) n) (jobIn above) n w k) (LineFault above k f) G (addNet k n w (jobIn above))
+      (λ o x. of-net x) (net-only i l r lo hi w (a .0))
+      (net-judged (jobIn above) n w k G (ordered-item above f refl net (a .0), job-more noJob above f)))
 
   block-line-judged : (t a b : ℕ) (job : Job) → LinesReach (filled job) above →
       LineJudged (Is.Block t a b) (addBlock k (blockOf t a b) job)
@@ -167,7 +167,7 @@ module _ (above : List Form) (k : ℕ) where
   step-judged s Is.Board r = at-start s (go opened) r board-line
   step-judged s (Is.Rows h) r = at-opened h s _ r (rows-line h)
   step-judged s (Is.Tracks t) r = at-sized t s _ r (tracks-line t)
-  step-judged s (Is.Net i l r lo hi) a = at-filled (Is.Net i l r lo hi) s _ (λ m. m) a (net-line-judged i l r lo hi)
+  step-judged s (Is.Net i l r lo hi w) a = at-filled (Is.Net i l r lo hi w) s _ (λ m. m) a (net-line-judged i l r lo hi w)
   step-judged s (Is.Block t a b) r = at-filled (Is.Block t a b) s _ (λ m. m) r (block-line-judged t a b)
   step-judged s Is.Close r = at-filled Is.Close s _ (λ m. m) r close-line
   step-judged s Is.Other r = wrong Is.Other (λ m. m)

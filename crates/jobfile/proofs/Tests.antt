@@ -17,8 +17,11 @@ use Rattle.board.specs.Length.{Allowed, lengthOf, shortest}
 use Rattle.board.specs.Accepted.{NetInRange, BlockInRange}
 use Rattle.board.proofs.ShortestShape.{shortest-long, shortest-least}
 use Rattle.text.specs.Bytes.{lines}
+use Rattle.jobfile.specs.declared.Optional.{Optional}
+use Rattle.jobfile.specs.declared.Optional.the-variants.{LeftOut, Written}
 use Rattle.jobfile.specs.declared.Outcome.the-variants.{TooLong}
-use Rattle.jobfile.specs.Read.{start, within, netInRange, blockInRange, pinsFree, lastNumber, Read, refused, readFrom, readJob}
+use Rattle.jobfile.specs.Read.{start, within, weightInRange, netInRange, blockInRange, pinsFree, lastNumber, Read, refused, readFrom, readJob}
+use Rattle.jobfile.specs.Faults.{WeightInRange}
 
 -- a test that fails denies what it stands for
 pub denied : {P : Type 0} (b : Bool) → ((b ≡ true) ↔ P) → b ≡ false → P → ⊥
@@ -49,25 +52,34 @@ unfolding readJob
 read-cases text P f g = by-length P (length text) 64000 (readFrom 1 start (lines text)) (refused TooLong) f g
 
 -- refusal 3
-pub net-range-is : (board : Board) (n : Net) → (netInRange board n ≡ true) ↔ NetInRange board n
+pub weight-range-is : (w : Optional) → (weightInRange w ≡ true) ↔ WeightInRange w
+unfolding weightInRange
+weight-range-is LeftOut = (λ h. tt, λ u. refl)
+weight-range-is (Written w) = within-is 1 999 w
+
+pub net-range-is : (board : Board) (n : Net) (w : Optional) → (netInRange board n w ≡ true) ↔ (NetInRange board n × WeightInRange w)
 unfolding netInRange
-net-range-is board n =
+net-range-is board n w =
     let t =
-    and-is _ _ (and-is _ _ (and-is _ _ (and-is _ _
+    and-is _ _ (and-is _ _ (and-is _ _ (and-is _ _ (and-is _ _
     (within-is 1 9999 (n .number))
     (within-is 1 (board .rows) (n .left .0)))
     (within-is 1 (board .rows) (n .right .0)))
     (leb-is (n .min) 4095))
-    (leb-is (n .max) 4095)
+    (leb-is (n .max) 4095))
+    (weight-range-is w)
     in (
-      λ h. let r = t .0 h in
-          record {
-            number-range = r .0 .0 .0 .0;
-            left-range = r .0 .0 .0 .1;
-            right-range = r .0 .0 .1;
-            bounds-range = (r .0 .1, r .1);
-          },
-      λ r. t .1 ((((r .number-range, r .left-range), r .right-range), r .bounds-range .0), r .bounds-range .1),
+      λ h. let r = t .0 h in (
+        record {
+          number-range = r .0 .0 .0 .0 .0;
+          left-range = r .0 .0 .0 .0 .1;
+          right-range = r .0 .0 .0 .1;
+          bounds-range = (r .0 .0 .1, r .0 .1);
+        },
+        r .1,
+      ),
+      λ r. let b = r .0 in
+          t .1 (((((b .number-range, b .left-range), b .right-range), b .bounds-range .0), b .bounds-range .1), r .1),
     )
 
 pub block-range-is : (board : Board) (b : Block) → (blockInRange board b ≡ true) ↔ BlockInRange board b

@@ -6,7 +6,9 @@ use native.Mathlib.Omega.{arith}
 use lib.ListN.{replicate, length-replicate}
 use Rattle.board.specs.Job.{Job}
 use Rattle.board.specs.WorkedBoard.{workedJob}
+use Rattle.board.specs.WeightedBoard.{weightedJob}
 use Rattle.text.specs.Bytes.{bytes, lines}
+use Rattle.jobfile.specs.declared.Optional.the-variants.{LeftOut}
 use Rattle.jobfile.specs.declared.Form.the-variants as Is
 use Rattle.jobfile.specs.declared.Outcome.the-variants.{NotOfForm, OutOfRange, TooMany, NumberNotAbove, PinUsed, SameRow, NoLength, TooFewRows}
 use Rattle.jobfile.specs.Read.{start, stop, netOf, blockOf, boardOf, emptyJob, addNet, addBlock, accepted, refused, readFrom, readJob}
@@ -99,7 +101,7 @@ pins :
     (readAs "(board\n(rows 5)\n(tracks 1)\n(net 1 1 2 0 9)\n(net 2 1 1 0 9)\n" ≡ refused (PinUsed 5)) ×
     (readAs "(board\n(rows 5)\n(tracks 1)\n(net 1 1 2 0 9)\n(net 2 3 2 0 9)\n" ≡ refused (PinUsed 5)) ×
     (readAs "(board\n(rows 5)\n(tracks 1)\n(net 1 1 2 0 9)\n(net 2 2 1 0 9)\n)\n" ≡
-    accepted (record { board = boardOf 5 1; nets = netOf 1 1 2 0 9 ∷ netOf 2 2 1 0 9 ∷ []; blocks = [] }))
+    accepted (record { board = boardOf 5 1; nets = netOf 1 1 2 0 9 2 ∷ netOf 2 2 1 0 9 2 ∷ []; blocks = [] }))
 unfolding readAs
 pins = (refl, refl, refl, refl)
 
@@ -113,6 +115,30 @@ lengths :
     (readAs "(board\n(rows 11)\n(tracks 1)\n(net 1 2 6 22 23)\n" ≡ refused (TooFewRows 4))
 unfolding readAs
 lengths = (refl, refl, refl, refl, refl, refl)
+
+-- a weight that is written counts, 1 to 999; one that is left out is the needed rows, also above 999; a written one above 999 is refused 3,
+-- also where it is the needed rows, and so is a written 0; a seventh number is 2; 3 comes before 5 to 8; no other form has one more number
+weights :
+    (readAs "(board\n(rows 5)\n(tracks 1)\n(net 1 1 2 0 9 7)\n)\n" ≡ accepted (record { board = boardOf 5 1; nets = netOf 1 1 2 0 9 7 ∷ []; blocks = [] })) ×
+    (readAs "(board\n(rows 5)\n(tracks 1)\n(net 1 1 2 0 9 2)\n)\n" ≡ readAs "(board\n(rows 5)\n(tracks 1)\n(net 1 1 2 0 9)\n)\n") ×
+    (readAs "(board\n(rows 1024)\n(tracks 1)\n(net 1 1 1010 0 4095)\n)\n" ≡ accepted (record { board = boardOf 1024 1; nets = netOf 1 1 1010 0 4095 1010 ∷ []; blocks = [] })) ×
+    (readAs "(board\n(rows 1024)\n(tracks 1)\n(net 1 1 1010 0 4095 1010)\n)\n" ≡ refused (OutOfRange 4)) ×
+    (readAs "(board\n(rows 5)\n(tracks 1)\n(net 1 1 2 0 9 0)\n)\n" ≡ refused (OutOfRange 4)) ×
+    (readAs "(board\n(rows 5)\n(tracks 1)\n(net 1 1 2 0 9 1000)\n)\n" ≡ refused (OutOfRange 4)) ×
+    (readAs "(board\n(rows 5)\n(tracks 1)\n(net 1 1 2 0 9 7 7)\n)\n" ≡ refused (NotOfForm 4)) ×
+    (readAs "(board\n(rows 5)\n(tracks 1)\n(net 1 1 2 0)\n)\n" ≡ refused (NotOfForm 4)) ×
+    (readAs "(board\n(rows 5)\n(tracks 1)\n(net 1 1 2 0 9)\n(net 1 1 2 0 0 1000)\n)\n" ≡ refused (OutOfRange 5)) ×
+    (readAs "(board\n(rows 5)\n(tracks 1)\n(block 1 1 1 7)\n)\n" ≡ refused (NotOfForm 4))
+unfolding readAs
+weights = (refl, refl, refl, refl, refl, refl, refl, refl, refl, refl)
+
+-- the board on which a weight turns the choice over: a weight of 2, written or left out, and one of 7
+weighted-board :
+    (readAs "(board\n(rows 6)\n(tracks 1)\n(net 1 1 6 0 4095)\n(net 2 2 3 0 4095 7)\n(net 3 4 5 0 4095)\n)\n" ≡ accepted (weightedJob 7)) ×
+    (readAs "(board\n(rows 6)\n(tracks 1)\n(net 1 1 6 0 4095)\n(net 2 2 3 0 4095 2)\n(net 3 4 5 0 4095)\n)\n" ≡ accepted (weightedJob 2)) ×
+    (readAs "(board\n(rows 6)\n(tracks 1)\n(net 1 1 6 0 4095)\n(net 2 2 3 0 4095)\n(net 3 4 5 0 4095)\n)\n" ≡ accepted (weightedJob 2))
+unfolding readAs
+weighted-board = (refl, refl, refl)
 
 -- document 01's worked board is read as the worked job
 pub worked-board : readAs workedText ≡ accepted workedJob
@@ -150,14 +176,14 @@ abbrev full : Job
 full =
     record {
       board = boardOf 9 1;
-      nets = replicate 512 (netOf 9 1 2 0 9);
+      nets = replicate 512 (netOf 9 1 2 0 9 2);
       blocks = replicate 256 (blockOf 1 1 1);
     }
 
 too-many :
-    (addNet 600 (netOf 10 3 4 0 9) full ≡ stop (TooMany 600)) ×
-    (addNet 600 (netOf 9 3 4 0 9) full ≡ stop (TooMany 600)) ×
-    (addNet 600 (netOf 9 3 10 0 9) full ≡ stop (OutOfRange 600)) ×
+    (addNet 600 (netOf 10 3 4 0 9 2) LeftOut full ≡ stop (TooMany 600)) ×
+    (addNet 600 (netOf 9 3 4 0 9 2) LeftOut full ≡ stop (TooMany 600)) ×
+    (addNet 600 (netOf 9 3 10 0 9 2) LeftOut full ≡ stop (OutOfRange 600)) ×
     (addBlock 600 (blockOf 1 1 1) full ≡ stop (TooMany 600)) ×
     (addBlock 600 (blockOf 2 1 1) full ≡ stop (OutOfRange 600))
 unfolding readAs

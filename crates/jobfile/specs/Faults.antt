@@ -12,12 +12,14 @@ use Rattle.board.specs.Job.{Job}
 use Rattle.board.specs.Length.{Allowed, needed}
 use Rattle.board.specs.Accepted.{NetInRange, BlockInRange}
 use Rattle.text.specs.Bytes.{lines}
+use Rattle.jobfile.specs.declared.Optional.{Optional}
+use Rattle.jobfile.specs.declared.Optional.the-variants.{LeftOut, Written}
 use Rattle.jobfile.specs.declared.Form.{Form}
 use Rattle.jobfile.specs.declared.Form.the-variants as Is
 use Rattle.jobfile.specs.declared.Outcome.{Outcome}
 use Rattle.jobfile.specs.declared.Outcome.the-variants.{TooLong, NotOfForm, OutOfRange, TooMany, NumberNotAbove, PinUsed, SameRow, NoLength, TooFewRows}
 use Rattle.jobfile.specs.Forms.{readForm}
-use Rattle.jobfile.specs.Read.{netOf, blockOf, boardOf, withNet, withBlock}
+use Rattle.jobfile.specs.Read.{netGiven, blockOf, boardOf, withNet, withBlock}
 use Rattle.jobfile.specs.Answers.{numberOf, lineOf, noJob}
 
 -- the forms of the lines of a text
@@ -30,7 +32,7 @@ withForm job Is.Blank = job
 withForm job Is.Board = job
 withForm job (Is.Rows h) = record { board = boardOf h (job .board .tracks); nets = job .nets; blocks = job .blocks }
 withForm job (Is.Tracks k) = record { board = boardOf (job .board .rows) k; nets = job .nets; blocks = job .blocks }
-withForm job (Is.Net i l r lo hi) = withNet job (netOf i l r lo hi)
+withForm job (Is.Net i l r lo hi w) = withNet job (netGiven (job .board) i l r lo hi w)
 withForm job (Is.Block t a b) = withBlock job (blockOf t a b)
 withForm job Is.Close = job
 withForm job Is.Other = job
@@ -50,7 +52,7 @@ isBlank Is.Blank = true
 isBlank Is.Board = false
 isBlank (Is.Rows h) = false
 isBlank (Is.Tracks k) = false
-isBlank (Is.Net i l r lo hi) = false
+isBlank (Is.Net i l r lo hi w) = false
 isBlank (Is.Block t a b) = false
 isBlank Is.Close = false
 isBlank Is.Other = false
@@ -62,7 +64,7 @@ nonBlank (f ∷ fs) = let rest = nonBlank fs in cond (isBlank f) rest (f ∷ res
 
 -- the form is a net or a block
 pub data Item : Form → Type 0 where
-  net : {i l r lo hi : ℕ} → Item (Is.Net i l r lo hi)
+  net : {i l r lo hi : ℕ} {w : Optional} → Item (Is.Net i l r lo hi w)
   block : {t a b : ℕ} → Item (Is.Block t a b)
 
 -- the lines are `(board`, `(rows H)`, `(tracks K)`, then nets and blocks in any order, and then the lines of `last`
@@ -79,22 +81,35 @@ MayFollow fs Is.Blank = Unit {0}
 MayFollow fs Is.Board = nonBlank fs ≡ []
 MayFollow fs (Is.Rows h) = nonBlank fs ≡ Is.Board ∷ []
 MayFollow fs (Is.Tracks k) = (h : ℕ) × (nonBlank fs ≡ Is.Board ∷ Is.Rows h ∷ [])
-MayFollow fs (Is.Net i l r lo hi) = Ordered [] fs
+MayFollow fs (Is.Net i l r lo hi w) = Ordered [] fs
 MayFollow fs (Is.Block t a b) = Ordered [] fs
 MayFollow fs Is.Close = Ordered [] fs
 MayFollow fs Is.Other = ⊥
 
--- the faults of net n on line k, where `job` is what the lines above hold
-pub data NetFault (job : Job) (n : Net) (k : ℕ) : Outcome → Type 0 where
-  net-range : (NetInRange (job .board) n → ⊥) → NetFault job n k (OutOfRange k)
-  net-count : 512 ≤ length (job .nets) → NetFault job n k (TooMany k)
-  not-above : (before : List Net) (m : Net) → job .nets ≡ before ++ (m ∷ []) → n .number ≤ m .number →
-      NetFault job n k (NumberNotAbove k)
-  left-used : (m : Net) → List·Memᴰ m (job .nets) → m .left .0 ≡ n .left .0 → NetFault job n k (PinUsed k)
-  right-used : (m : Net) → List·Memᴰ m (job .nets) → m .right .0 ≡ n .right .0 → NetFault job n k (PinUsed k)
-  same-row : n .left .0 ≡ n .right .0 → NetFault job n k (SameRow k)
-  no-length : ((s : Shape) → Allowed (job .board) n s → ⊥) → NetFault job n k (NoLength k)
-  too-few-rows : job .board .rows < needed (job .board) n → NetFault job n k (TooFewRows k)
+-- a weight that a line gives is in range: from 1 to 999 where it is written
+abbrev pub WeightInRange : Optional → Type 0
+WeightInRange LeftOut = Unit {0}
+WeightInRange (Written w) = (1 ≤ w) × (w ≤ 999)
+
+-- the faults of net n with the weight w that is given, at line k, where `job` is what stands above. `Misnumbered` is what number 5 turns away,
+-- which depends on how the net comes
+pub data NetFault (Misnumbered : Type 0) (job : Job) (n : Net) (w : Optional) (k : ℕ) : Outcome → Type 0 where
+  net-range : (NetInRange (job .board) n → ⊥) → NetFault Misnumbered job n w k (OutOfRange k)
+  weight-range : (WeightInRange w → ⊥) → NetFault Misnumbered job n w k (OutOfRange k)
+  net-count : 512 ≤ length (job .nets) → NetFault Misnumbered job n w k (TooMany k)
+  misnumbered : Misnumbered → NetFault Misnumbered job n w k (NumberNotAbove k)
+  left-used : (m : Net) → List·Memᴰ m (job .nets) → m .left .0 ≡ n .left .0 → NetFault Misnumbered job n w k (PinUsed k)
+  right-used : (m : Net) → List·Memᴰ m (job .nets) → m .right .0 ≡ n .right .0 → NetFault Misnumbered job n w k (PinUsed k)
+  same-row : n .left .0 ≡ n .right .0 → NetFault Misnumbered job n w k (SameRow k)
+  no-length : ((s : Shape) → Allowed (job .board) n s → ⊥) → NetFault Misnumbered job n w k (NoLength k)
+  too-few-rows : job .board .rows < needed (job .board) n → NetFault Misnumbered job n w k (TooFewRows k)
+
+-- number 5 of a line: the last net above it has no smaller number
+pub record NotAbove (nets : List Net) (n : Net) : Type 0 where
+  pub before : List Net
+  pub last : Net
+  pub nets-are : nets ≡ before ++ (last ∷ [])
+  pub not-above : n .number ≤ last .number
 
 -- the faults of block b on line k, where `job` is what the lines above hold
 pub data BlockFault (job : Job) (b : Block) (k : ℕ) : Outcome → Type 0 where
@@ -106,8 +121,9 @@ pub data LineFault (above : List Form) (k : ℕ) : Form → Outcome → Type 0 w
   not-of-form : {f : Form} → (MayFollow above f → ⊥) → LineFault above k f (NotOfForm k)
   rows-range : {h : ℕ} → ((1 ≤ h) × (h ≤ 1024) → ⊥) → LineFault above k (Is.Rows h) (OutOfRange k)
   tracks-range : {t : ℕ} → ((1 ≤ t) × (t ≤ 128) → ⊥) → LineFault above k (Is.Tracks t) (OutOfRange k)
-  of-net : {i l r lo hi : ℕ} {o : Outcome} → NetFault (jobIn above) (netOf i l r lo hi) k o →
-      LineFault above k (Is.Net i l r lo hi) o
+  of-net : {i l r lo hi : ℕ} {w : Optional} {o : Outcome} →
+      (let job = jobIn above in let n = netGiven (job .board) i l r lo hi w in NetFault (NotAbove (job .nets) n) job n w k o) →
+      LineFault above k (Is.Net i l r lo hi w) o
   of-block : {t a b : ℕ} {o : Outcome} → BlockFault (jobIn above) (blockOf t a b) k o → LineFault above k (Is.Block t a b) o
 
 -- the faults of a text: its length, those of its lines, and, at the line after the last, that its lines are no whole job: the text ends early

@@ -1,6 +1,6 @@
 -- Document 01, "Text of a job" and "Operations", read: a text becomes a job, or a refusal that names its line.
 use Prim.Native.Nat.{ℕ, suc}
-use mathlib.Core.Bool.{Bool, not, cond, _&&_}
+use mathlib.Core.Bool.{Bool, true, not, cond, _&&_}
 use mathlib.Core.List.{List, [], _∷_, _++_}
 use lib.Dec.{eqb, leb, ltb}
 use lib.ListN.{length}
@@ -11,6 +11,8 @@ use Rattle.board.specs.declared.Block.{Block}
 use Rattle.board.specs.Job.{Job}
 use Rattle.board.specs.Length.{lengthOf, shortest, needed}
 use Rattle.text.specs.Bytes.{lines}
+use Rattle.jobfile.specs.declared.Optional.{Optional}
+use Rattle.jobfile.specs.declared.Optional.the-variants.{LeftOut, Written}
 use Rattle.jobfile.specs.declared.Form.{Form}
 use Rattle.jobfile.specs.declared.Form.the-variants as Is
 use Rattle.jobfile.specs.declared.Outcome.{Outcome}
@@ -71,9 +73,23 @@ atFilled k (closed job) f = stop (NotOfForm k)
 unfoldable pub within : ℕ → ℕ → ℕ → Bool
 within lo hi x = leb lo x && leb x hi
 
--- the record of a net, by its number, L, R, min and max
-abbrev pub netOf : ℕ → ℕ → ℕ → ℕ → ℕ → Net
-netOf i l r lo hi = record { number = i; left = record { 0 = l }; right = record { 0 = r }; min = lo; max = hi }
+-- the record of a net, by its number, L, R, min, max and weight
+abbrev pub netOf : ℕ → ℕ → ℕ → ℕ → ℕ → ℕ → Net
+netOf i l r lo hi w = record { number = i; left = record { 0 = l }; right = record { 0 = r }; min = lo; max = hi; weight = w }
+
+-- the weight that a line gives its net: the one that is written; the needed rows where it is left out
+unfoldable pub weightGiven : Board → Net → Optional → ℕ
+weightGiven board n LeftOut = needed board n
+weightGiven board n (Written w) = w
+
+-- the net with the weight that its line gives
+abbrev pub withWeight : Board → Net → Optional → Net
+withWeight board n w =
+    record { number = n .number; left = n .left; right = n .right; min = n .min; max = n .max; weight = weightGiven board n w }
+
+-- the net that a line gives on a board, by its number, L, R, min, max and the weight, written or left out; no needed rows depend on a weight
+abbrev pub netGiven : Board → ℕ → ℕ → ℕ → ℕ → ℕ → Optional → Net
+netGiven board i l r lo hi w = withWeight board (netOf i l r lo hi 0) w
 
 -- the record of a block, by its track, A and B
 abbrev pub blockOf : ℕ → ℕ → ℕ → Block
@@ -95,14 +111,20 @@ withNet job n = record { board = job .board; nets = job .nets ++ (n ∷ []); blo
 abbrev pub withBlock : Job → Block → Job
 withBlock job b = record { board = job .board; nets = job .nets; blocks = job .blocks ++ (b ∷ []) }
 
--- the numbers of a net are in their ranges
-unfoldable pub netInRange : Board → Net → Bool
-netInRange board n =
+-- a weight that is written is from 1 to 999
+unfoldable pub weightInRange : Optional → Bool
+weightInRange LeftOut = true
+weightInRange (Written w) = within 1 999 w
+
+-- the numbers of a net and the weight that its line gives are in their ranges
+unfoldable pub netInRange : Board → Net → Optional → Bool
+netInRange board n w =
     within 1 9999 (n .number) &&
     within 1 (board .rows) (n .left .0) &&
     within 1 (board .rows) (n .right .0) &&
     leb (n .min) 4095 &&
-    leb (n .max) 4095
+    leb (n .max) 4095 &&
+    weightInRange w
 
 -- the numbers of a block are in their ranges, and A ≤ B
 unfoldable pub blockInRange : Board → Block → Bool
@@ -121,17 +143,26 @@ lastNumber k (n ∷ ns) = lastNumber (n .number) ns
 unfoldable pub pinsFree : Net → Net → Bool
 pinsFree n m = not (eqb (m .left .0) (n .left .0)) && not (eqb (m .right .0) (n .right .0))
 
--- line k is a net: refusals 3 to 9, the first that fits
-unfoldable pub addNet : ℕ → Net → Job → Next
-addNet k n job =
-    unless (netInRange (job .board) n) (OutOfRange k)
+-- the tests of a net with the weight that is given, refusals 3 to 9, the first that fits; state s where all pass. What number 5 asks is
+-- handed in, since it depends on how the net comes: a line's number has to be above the last
+unfoldable pub testNet : ℕ → Bool → Net → Optional → Job → State → Next
+testNet k numbered n w job s =
+    unless (netInRange (job .board) n w) (OutOfRange k)
     (unless (ltb (length (job .nets)) 512) (TooMany k)
-    (unless (ltb (lastNumber 0 (job .nets)) (n .number)) (NumberNotAbove k)
+    (unless numbered (NumberNotAbove k)
     (unless (allOf (pinsFree n) (job .nets)) (PinUsed k)
     (unless (not (eqb (n .left .0) (n .right .0))) (SameRow k)
     (unless (leb (lengthOf (job .board) n (shortest (job .board) n)) (n .max)) (NoLength k)
     (unless (leb (needed (job .board) n) (job .board .rows)) (TooFewRows k)
-    (go (filled (withNet job n)))))))))
+    (go s)))))))
+
+-- the number of a net is above that of the last net
+unfoldable pub isAbove : Net → List Net → Bool
+isAbove n ns = ltb (lastNumber 0 ns) (n .number)
+
+-- line k is a net: refusals 3 to 9
+unfoldable pub addNet : ℕ → Net → Optional → Job → Next
+addNet k n w job = testNet k (isAbove n (job .nets)) n w job (filled (withNet job n))
 
 -- line k is a block: refusals 3 and 4
 unfoldable pub addBlock : ℕ → Block → Job → Next
@@ -146,7 +177,7 @@ step k s Is.Blank = go s
 step k s Is.Board = atStart k s (go opened)
 step k s (Is.Rows h) = atOpened k s (unless (within 1 1024 h) (OutOfRange k) (go (sized h)))
 step k s (Is.Tracks t) = atSized k s (λ h. unless (within 1 128 t) (OutOfRange k) (go (filled (emptyJob (boardOf h t)))))
-step k s (Is.Net i l r lo hi) = atFilled k s (addNet k (netOf i l r lo hi))
+step k s (Is.Net i l r lo hi w) = atFilled k s (λ job. addNet k (netGiven (job .board) i l r lo hi w) w job)
 step k s (Is.Block t a b) = atFilled k s (addBlock k (blockOf t a b))
 step k s Is.Close = atFilled k s (λ job. go (closed job))
 step k s Is.Other = stop (NotOfForm k)

@@ -1,13 +1,19 @@
 // Reading a job: each line of a text is a form, and the text becomes a job by value or a refusal that names its line.
 use board::StoredJob;
 
+// A last number of a form that a line may leave out.
+pub enum Optional {
+    LeftOut,
+    Written(usize),
+}
+
 // What a line of a job is: blank, one of the five forms with its numbers in the order of the line, the closing bracket, or none of these.
 pub enum Form {
     Blank,
     Board,
     Rows(usize),
     Tracks(usize),
-    Net(usize, usize, usize, usize, usize),
+    Net(usize, usize, usize, usize, usize, Optional),
     Block(usize, usize, usize),
     Close,
     Other,

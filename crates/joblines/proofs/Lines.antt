@@ -3,13 +3,15 @@ use Prim.Native.Nat.{ℕ}
 use mathlib.Core.Path.{_≡_, refl, sym, ap, _∙_}
 use mathlib.Core.List.{List, [], _∷_, _++_, append-assoc}
 use Rattle.text.specs.Digits.{digits}
-use Rattle.keywords.specs.Keywords.{wordOf}
+use Rattle.keywords.specs.Keywords.{netWord, wordOf}
 use Rattle.linewriter.specs.LineText.{headText}
 use Rattle.keywords.specs.declared.Vocabulary.the-variants.{Job}
 use Rattle.board.specs.declared.Net.{Net}
 use Rattle.board.specs.declared.Block.{Block}
-use Rattle.house.specs.HouseText.{spacedThen, innerLine, netLine, blockLine}
-use Rattle.joblines.specs.Lines.{ended, twoText}
+use Rattle.jobfile.specs.declared.Optional.{Optional}
+use Rattle.jobfile.specs.declared.Optional.the-variants.{LeftOut, Written}
+use Rattle.house.specs.HouseText.{spacedThen, innerLine, optionalNumber, netNumbers, blockLine}
+use Rattle.joblines.specs.Lines.{ended, twoText, optionalText}
 
 -- numbers and what is behind them, with a byte more
 spaced-ended : (ns rest : List ℕ) → spacedThen ns rest ++ (10 ∷ []) ≡ spacedThen ns (rest ++ (10 ∷ []))
@@ -38,15 +40,20 @@ none-parts rest = refl
 pub size-parts : (i n : ℕ) → ended (innerLine (wordOf Job i) (n ∷ [])) ≡ headText Job i n ++ (41 ∷ 10 ∷ [])
 size-parts i n = line-parts i n [] ∙ ap (λ l. headText Job i n ++ l) (none-parts (41 ∷ 10 ∷ []))
 
-pub net-parts : (n : Net) → ended (netLine n) ≡
-    headText Job 3 (n .number) ++ (twoText (n .left .0) (n .right .0) ++ (twoText (n .min) (n .max) ++ (41 ∷ 10 ∷ [])))
+optional-parts : (w : Optional) (rest : List ℕ) → spacedThen (optionalNumber w) rest ≡ optionalText w ++ rest
+unfolding spacedThen optionalText
+optional-parts LeftOut rest = refl
+optional-parts (Written x) rest = refl
+
+pub net-parts : (n : Net) (w : Optional) → ended (innerLine netWord (netNumbers n w)) ≡
+    headText Job 3 (n .number) ++ (twoText (n .left .0) (n .right .0) ++ (twoText (n .min) (n .max) ++ (optionalText w ++ (41 ∷ 10 ∷ []))))
 unfolding wordOf
-net-parts n =
-    line-parts 3 (n .number) (n .left .0 ∷ n .right .0 ∷ n .min ∷ n .max ∷ []) ∙
+net-parts n w =
+    line-parts 3 (n .number) (n .left .0 ∷ n .right .0 ∷ n .min ∷ n .max ∷ optionalNumber w) ∙
     ap (λ l. headText Job 3 (n .number) ++ l)
-    (two-parts (n .left .0) (n .right .0) (n .min ∷ n .max ∷ []) (41 ∷ 10 ∷ []) ∙
+    (two-parts (n .left .0) (n .right .0) (n .min ∷ n .max ∷ optionalNumber w) (41 ∷ 10 ∷ []) ∙
     ap (λ l. twoText (n .left .0) (n .right .0) ++ l)
-    (two-parts (n .min) (n .max) [] (41 ∷ 10 ∷ []) ∙ ap (λ l. twoText (n .min) (n .max) ++ l) (none-parts (41 ∷ 10 ∷ []))))
+    (two-parts (n .min) (n .max) (optionalNumber w) (41 ∷ 10 ∷ []) ∙ ap (λ l. twoText (n .min) (n .max) ++ l) (optional-parts w (41 ∷ 10 ∷ []))))
 
 pub block-parts : (b : Block) → ended (blockLine b) ≡ headText Job 4 (b .track .0) ++ (twoText (b .first .0) (b .last .0) ++ (41 ∷ 10 ∷ []))
 unfolding wordOf

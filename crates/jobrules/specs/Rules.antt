@@ -11,7 +11,7 @@ use Rattle.board.specs.Job.{Job}
 use Rattle.blockmap.specs.Bits.{isSet}
 use Rattle.jobfile.specs.declared.Outcome.{Outcome}
 use Rattle.jobfile.specs.declared.Outcome.the-variants.{Accepted}
-use Rattle.jobfile.specs.Read.{Next, go, stop, lastNumber}
+use Rattle.jobfile.specs.Read.{Next, go, stop}
 use Rattle.jobrules.specs.declared.UsedPins.{UsedPins}
 
 -- the outcome of a line: nothing is refused where the lines go on
@@ -29,9 +29,8 @@ pub record PinsOf (nets : List Net) (used : UsedPins) : Type 0 where
   pub left-is : (row : ℕ) → isSet (used .left .words) row ≡ anyOf (λ n. eqb row (n .left .0)) nets
   pub right-is : (row : ℕ) → isSet (used .right .words) row ≡ anyOf (λ n. eqb row (n .right .0)) nets
 
--- what a net more of the job is held against: the size, how many nets there are, the number of the last and the pins that they use
-pub record NetsAbove (job : Job) (size : Board) (count last : ℕ) (used : UsedPins) : Type 0 where
+-- what a net more of the job is held against: the size, how many nets there are and the pins that they use
+pub record NetsAbove (job : Job) (size : Board) (count : ℕ) (used : UsedPins) : Type 0 where
   pub size-is : job .board ≡ size
   pub count-is : length (job .nets) ≡ count
-  pub last-is : lastNumber 0 (job .nets) ≡ last
   pub pins : PinsOf (job .nets) used

@@ -7,15 +7,16 @@ use board::Net;
 use board::Row;
 use board::StoredJob;
 use board::Track;
+use jobfile::Optional;
 use jobfile::Outcome;
 ghost use mathlib.Core.Path.{_≡_};
 ghost use mathlib.Core.List.{List, [], _∷_, _++_};
 ghost use lib.ListN.{length};
 ghost use Rattle.lists.specs.Lists.{allOf};
 ghost use Rattle.board.specs.Job.{Job};
-ghost use Rattle.board.specs.Accepted.{BoardInRange};
+ghost use Rattle.board.specs.Accepted.{BoardInRange, NetInRange};
 ghost use Rattle.board.specs.Stored.{storedOf};
-ghost use Rattle.jobfile.specs.Read.{within, netInRange, blockInRange, pinsFree, boardOf, emptyJob, addNet, addBlock};
+ghost use Rattle.jobfile.specs.Read.{State, within, weightInRange, netInRange, withWeight, blockInRange, pinsFree, boardOf, emptyJob, testNet, addBlock};
 ghost use Rattle.jobfile.specs.Answers.{numberOf, lineOf};
 ghost use Rattle.jobrules.specs.Rules.{outcomeOf, RowsInRange, PinsOf, NetsAbove};
 
@@ -71,6 +72,7 @@ pub fn empty_job(rows: usize, tracks: usize) -> StoredJob
         right: Row(0),
         min: 0,
         max: 0,
+        weight: 0,
     };
     let no_block = Block {
         track: Track(0),
@@ -96,9 +98,19 @@ pub fn is_within(lo: usize, hi: usize, x: usize) -> bool
     x <= hi
 }
 
-// Refusal 3 of a net: whether its numbers are in their ranges.
-fn is_net_in_range(size: Board, net: Net) -> bool
-    ensures { λ r. ⌜ r ≡ netInRange size net ⌝ }
+// Refusal 3 of a weight: whether one that is written is from 1 to 999.
+fn is_weight_in_range(weight: Optional) -> bool
+    ensures { λ r. ⌜ r ≡ weightInRange weight ⌝ }
+{
+    match weight {
+        Optional::LeftOut => true,
+        Optional::Written(w) => is_within(1, 999, w),
+    }
+}
+
+// Refusal 3 of a net: whether its numbers and the weight that its line gives are in their ranges.
+fn is_net_in_range(size: Board, net: Net, weight: Optional) -> bool
+    ensures { λ r. ⌜ r ≡ netInRange size net weight ⌝ }
 {
     if !is_within(1, 9999, net.number) {
         return false;
@@ -112,7 +124,10 @@ fn is_net_in_range(size: Board, net: Net) -> bool
     if 4095 < net.min {
         return false;
     }
-    net.max <= 4095
+    if 4095 < net.max {
+        return false;
+    }
+    is_weight_in_range(weight)
 }
 
 // Refusal 3 of a block: whether its numbers are in their ranges, and A ≤ B.
@@ -129,6 +144,21 @@ fn is_block_in_range(size: Board, block: Block) -> bool
         return false;
     }
     block.first.0 <= block.last.0
+}
+
+// The net with the weight that its line gives: the one that is written, or its needed rows.
+pub fn with_weight(size: Board, net: Net, weight: Optional) -> Net
+    requires { ⌜ BoardInRange size ⌝ }
+    requires { ⌜ NetInRange size net ⌝ }
+    ensures { λ r. ⌜ r ≡ withWeight size net weight ⌝ }
+{
+    match weight {
+        Optional::LeftOut => Net {
+            weight: board::needed(size, net),
+            ..net
+        },
+        Optional::Written(w) => Net { weight: w, ..net },
+    }
 }
 
 // No pin is used.
@@ -163,26 +193,27 @@ fn are_pins_free(used: UsedPins, net: Net) -> bool
     !blockmap::is_blocked(&right.words, net.right)
 }
 
-// Refusals 3 to 9 of a net, the first that fits, on a board below so many nets, the number of the last of them and their pins.
+// Refusals 3 to 9 of a net and the weight that it is given, the first that fits, on a board with so many nets and their pins. Whether it passes
+// number 5 is handed in: what that asks depends on how the net comes.
 pub fn net_outcome(
     size: Board,
     count: usize,
-    last: usize,
     used: UsedPins,
     net: Net,
+    weight: Optional,
+    numbered: bool,
     line: usize,
 ) -> Outcome
     requires { ⌜ BoardInRange size ⌝ }
-    ensures { λ r. ⌜ ((job : Job) → NetsAbove job size count last used → r ≡ outcomeOf (addNet line net job)) ⌝ }
+    ensures { λ r. ⌜ ((job : Job) (s : State) → NetsAbove job size count used → r ≡ outcomeOf (testNet line numbered net weight job s)) ⌝ }
 {
-    let number = net.number;
-    if !is_net_in_range(size, net) {
+    if !is_net_in_range(size, net, weight) {
         return Outcome::OutOfRange(line);
     }
     if 512 <= count {
         return Outcome::TooMany(line);
     }
-    if number <= last {
+    if !numbered {
         return Outcome::NumberNotAbove(line);
     }
     if !are_pins_free(used, net) {

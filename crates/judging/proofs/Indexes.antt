@@ -14,11 +14,11 @@ use Rattle.lists.proofs.Places.{take-more, mem-at, map-at}
 use Rattle.board.specs.declared.Net.{Net}
 use Rattle.board.specs.declared.StoredJob.{StoredJob}
 use Rattle.board.specs.Job.{Job}
-use Rattle.board.specs.Length.{worth}
+use Rattle.board.specs.Weight.{weight}
 use Rattle.board.specs.Stored.{jobOf, noNet}
 use Rattle.board.specs.Accepted.{AcceptedJob}
-use Rattle.sound.specs.Wires.{worthOf}
-use Rattle.sound.proofs.Nets.{worth-of}
+use Rattle.sound.specs.Wires.{weightOf}
+use Rattle.sound.proofs.Nets.{weight-of}
 use Rattle.candidates.specs.Placed.{padded, indexFrom}
 use Rattle.candidates.proofs.Prefixes.{padded-more}
 use Rattle.candidates.proofs.Eligible.{index-cases}
@@ -126,6 +126,6 @@ module _ (job : Job) (found : NetFound) (is : NetIs job found) where
   pub found-listed : List·Memᴰ (found .net) (job .nets)
   found-listed = subst (λ q. List·Memᴰ q (job .nets)) (is .net-is) (mem-at (job .nets) (found .index) noNet (is .index-range))
 
-  -- a wire of its number counts what it is worth
-  pub found-worth : AcceptedJob job → (k : ℕ) → found .net .number ≡ k → worthOf job k ≡ worth (job .board) (found .net)
-  found-worth a k e = ap (worthOf job) (sym e) ∙ worth-of job (a .numbers-rise) (found .net) found-listed
+  -- a wire of its number counts its weight
+  pub found-weight : AcceptedJob job → (k : ℕ) → found .net .number ≡ k → weightOf job k ≡ weight (found .net)
+  found-weight a k e = ap (weightOf job) (sym e) ∙ weight-of job (a .numbers-rise) (found .net) found-listed

@@ -12,11 +12,12 @@ use borrow.Author.Tests.{eqb-true, eqb-false}
 use Rattle.lists.proofs.Cases.{by-test}
 use Rattle.board.specs.declared.Shape.{Shape}
 use Rattle.board.specs.Job.{Job}
-use Rattle.board.specs.Length.{span, extra, worth}
+use Rattle.board.specs.Length.{span, extra}
+use Rattle.board.specs.Weight.{weight}
 use Rattle.board.specs.Placement.{placementAt, covered}
 use Rattle.board.specs.Accepted.{AcceptedJob}
 use Rattle.layout.specs.Tree.{Wire}
-use Rattle.sound.specs.Wires.{worthOf}
+use Rattle.sound.specs.Wires.{weightOf}
 use Rattle.drc.specs.Pass.{Summary, addWire, isNextWire, lowestOf, breachAfter}
 use Rattle.judging.specs.declared.LinesJudged.{LinesJudged}
 use Rattle.judging.specs.declared.NetFound.{NetFound}
@@ -24,7 +25,7 @@ use Rattle.judging.specs.Judged.{breachOf, NetLines, KeepsSummary, LineI
 use Rattle.judging.specs.Values.{isNextAt, firstBreach, NetIs, MapOf}
 use Rattle.judging.proofs.ValueTests.{lowest-row, breach-before, breach-still-none, breach-here}
 use Rattle.judging.proofs.Turns.{breach-none, breach-some}
-use Rattle.judging.proofs.Indexes.{found-worth}
+use Rattle.judging.proofs.Indexes.{found-weight}
 use Rattle.judging.proofs.LinesAdded.{line-added, next-same, next-new}
 
 breach-follows : (f n : ℕ) (passed asked : Bool) → 1 ≤ n → (f ≡ 0 → passed ≡ asked) → breachAfter (breachOf f) n asked ≡ breachOf (firstBreach f passed n)
@@ -63,7 +64,7 @@ module _ (job : Job) (n : ℕ) (line : LineInRange n) (s : Summary) (w : Wire) (
   }
 
   -- that draws no placement of its net
-  pub undrawn-added : (before after : List ℕ) (more : ℕ) → worthOf job (w .number) ≡ more → KeepsSummary job s j before →
+  pub undrawn-added : (before after : List ℕ) (more : ℕ) → weightOf job (w .number) ≡ more → KeepsSummary job s j before →
       KeepsSummary job (addWire job n w none s) (behindWire more (j .lowest .0) (firstBreach (j .breach) false n)) after
   unfolding isNextWire lowestOf
   undrawn-added before after more v h =
@@ -90,7 +91,7 @@ module _ (job : Job) (n : ℕ) (line : LineInRange n) (s : Summary) (w : Wire) (
     -- that draws its net in a shape with its top at a row
     drawn-added : KeepsSummary job s j stands →
         KeepsSummary job (addWire job n w (some (placementAt (found .net) shape top)) s)
-        (behindWire (worth (job .board) (found .net)) (top + span (found .net) + extra shape) (firstBreach (j .breach) next n))
+        (behindWire (weight (found .net)) (top + span (found .net) + extra shape) (firstBreach (j .breach) next n))
         (set stands (found .index) (j .track .0))
     unfolding lowestOf
     drawn-added h =
@@ -100,7 +101,7 @@ module _ (job : Job) (n : ℕ) (line : LineInRange n) (s : Summary) (w : Wire) (
           track-is = h .track-is;
           line-is = h .line-is;
           printed-is = h .printed-is;
-          sum-is = ap₂ (λ x y. x + y) (h .sum-is) (found-worth job found is a (w .number) numbered);
+          sum-is = ap₂ (λ x y. x + y) (h .sum-is) (found-weight job found is a (w .number) numbered);
           lowest-is = refl;
           last-is = h .last-is;
           breach-is =
@@ -115,7 +116,7 @@ module _ (job : Job) (n : ℕ) (line : LineInRange n) (s : Summary) (w : Wire) (
         }
 
     -- the same of what the code works out
-    pub drawn-kept : (more lowest breach : ℕ) → more ≡ worth (job .board) (found .net) → lowest ≡ top + covered (found .net) shape - 1 →
+    pub drawn-kept : (more lowest breach : ℕ) → more ≡ weight (found .net) → lowest ≡ top + covered (found .net) shape - 1 →
         breach ≡ firstBreach (j .breach) next n → KeepsSummary job s j stands →
         KeepsSummary job (addWire job n w (some (placementAt (found .net) shape top)) s) (behindWire more lowest breach) (set stands (found .index) (j .track .0))
     drawn-kept more lowest breach e f g h = rw (e, f ∙ lowest-row top (found .net) shape, g) (drawn-added h)

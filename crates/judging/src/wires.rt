@@ -16,7 +16,7 @@ ghost use Rattle.board.specs.Placement.{placementAt};
 ghost use Rattle.board.specs.Accepted.{BoardInRange, AcceptedNet, AcceptedJob};
 ghost use Rattle.blockmap.specs.Clear.{allUnset};
 ghost use Rattle.layout.specs.Tree.{Wire};
-ghost use Rattle.sound.specs.Wires.{worthOf};
+ghost use Rattle.sound.specs.Wires.{weightOf};
 ghost use Rattle.drc.specs.Pass.{Summary, addWire};
 ghost use Rattle.judging.specs.Judged.{KeepsSummary, JudgedInRange, LineInRange};
 ghost use Rattle.judging.specs.Values.{isAllowed, readyAt, isNextAt, firstBreach, NetIs, NetFits, MapOf};
@@ -109,16 +109,16 @@ fn first_breach(breach: usize, passed: bool, line: usize) -> usize
 }
 
 // What a wire that draws no placement of its net leads to, where a wire can stand: it is broken, and counts by its number.
-pub fn add_undrawn(m: LinesJudged, line: usize, worth: usize) -> LinesJudged
+pub fn add_undrawn(m: LinesJudged, line: usize, weight: usize) -> LinesJudged
     requires { ⌜ LineInRange line ⌝ }
     requires { ⌜ JudgedInRange (line - 1) m ⌝ }
-    requires { ⌜ worth ≤ 4096 ⌝ }
-    ensures { λ r. ⌜ ((job : Job) (s : Summary) (w : Wire) (before after : List ℕ) → worthOf job (w .number) ≡ worth → KeepsSummary job s m before → KeepsSummary job (addWire job line w none s) r after) ⌝ }
+    requires { ⌜ weight ≤ 4096 ⌝ }
+    ensures { λ r. ⌜ ((job : Job) (s : Summary) (w : Wire) (before after : List ℕ) → weightOf job (w .number) ≡ weight → KeepsSummary job s m before → KeepsSummary job (addWire job line w none s) r after) ⌝ }
     ensures { λ r. ⌜ (JudgedInRange line r) ⌝ }
 {
     let breach = first_breach(m.breach, false, line);
     LinesJudged {
-        sum: m.sum + worth,
+        sum: m.sum + weight,
         breach,
         ..m
     }
@@ -148,8 +148,7 @@ pub fn add_drawn(
     stands[index] = m.track.0;
     let rows = board::covered(net, shape);
     let lowest = top.0 + rows - 1;
-    let worth = board::worth(board, net);
-    let sum = m.sum + worth;
+    let sum = m.sum + net.weight;
     LinesJudged {
         sum,
         lowest: Row(lowest),

@@ -12,7 +12,7 @@ use Rattle.board.specs.declared.Net.{Net}
 use Rattle.board.specs.declared.Row.{Row}
 use Rattle.board.specs.declared.Shape.{Shape}
 use Rattle.board.specs.Job.{Job}
-use Rattle.board.specs.Length.{worth}
+use Rattle.board.specs.Weight.{weight}
 use Rattle.board.specs.Placement.{Placement, placementAt, bottom}
 use Rattle.board.specs.Accepted.{AcceptedJob}
 use Rattle.board.specs.Tests.{isFromOne, isOverUpper, isUnderLower, isToLast}
@@ -21,14 +21,14 @@ use Rattle.layout.specs.Tree.{Wire}
 use Rattle.layout.specs.Drawing.{pointsOn}
 use Rattle.layout.specs.Drawn.{placementOf, netNumbered}
 use Rattle.layout.proofs.RoundTrip.{only-some}
-use Rattle.sound.specs.Wires.{worthBy, worthOf}
+use Rattle.sound.specs.Wires.{weightBy, weightOf}
 use Rattle.sound.proofs.Nets.{net-some, net-of}
 use Rattle.drc.proofs.Drawings.{placement-net}
 use Rattle.drc.specs.Covers.{samePoints, isOnBoard, drawnOf, drawnFrom, drawnBy}
 use Rattle.drawnwires.specs.declared.DrawnPlace.the-variants.{Nothing, At}
 use Rattle.drawnwires.specs.DrawnPlaces.{placeOf}
 use Rattle.judging.specs.declared.NetFound.{NetFound}
-use Rattle.judging.proofs.Indexes.{index-number, index-none, found-listed, found-worth}
+use Rattle.judging.proofs.Indexes.{index-number, index-none, found-listed, found-weight}
 use Rattle.layoutsteps.specs.Found.{IsFound, FoundFor}
 
 -- ---- the placement that is answered
@@ -93,17 +93,17 @@ module _ (job : Job) (a : AcceptedJob job) (w : Wire) (found : NetFound) (is : F
   unfolding drawnBy drawnFrom
   unknown-undrawn t e = rw (unnumbered e)
 
-  pub unknown-worth : found .index ≡ 512 → worthOf job (w .number) ≡ 0
-  unfolding worthOf worthBy
-  unknown-worth e = rw (unnumbered e)
+  pub unknown-weight : found .index ≡ 512 → weightOf job (w .number) ≡ 0
+  unfolding weightOf weightBy
+  unknown-weight e = rw (unnumbered e)
 
   module _ (d : IsFound found) where
     -- the net found has the number
     pub found-number : found .net .number ≡ w .number
     found-number = ap (λ (n : Net). n .number) (sym (is .net-is d .net-is)) ∙ index-number job (w .number) (found .index) (is .index-is) d .1
 
-    pub known-worth : worthOf job (w .number) ≡ worth (job .board) (found .net)
-    known-worth = found-worth job found (is .net-is d) a (w .number) found-number
+    pub known-weight : weightOf job (w .number) ≡ weight (found .net)
+    known-weight = found-weight job found (is .net-is d) a (w .number) found-number
 
     pub known-drawn : (t : ℕ) → drawnBy job t w ≡ drawnOf (job .board) t (w .points) (found .net)
     unfolding drawnBy drawnFrom

@@ -133,7 +133,7 @@ fn take_wire(
     }
     let net = found.net;
     match drawnwires::drawn_place(board, net, m.track, s) {
-        DrawnPlace::Nothing => judging::wires::add_undrawn(m, line, board::worth(board, net)),
+        DrawnPlace::Nothing => judging::wires::add_undrawn(m, line, net.weight),
         DrawnPlace::At { top, shape } => {
             judging::wires::add_drawn(board, found, words, stands, m, line, top, shape)
         }

@@ -8,15 +8,16 @@ use lib.Dec.{leb}
 use borrow.Author.Tests.{leb-true, leb-false}
 use Rattle.lists.proofs.Cases.{by-test, by-option}
 use Rattle.board.specs.declared.Net.{Net}
-use Rattle.board.specs.Length.{needed, worth}
+use Rattle.board.specs.Length.{needed}
+use Rattle.board.specs.Weight.{weight}
 use Rattle.board.specs.Job.{Job}
 use Rattle.board.proofs.ShortestShape.{needed-pos}
 use Rattle.packing.specs.Best.{bestLast}
 use Rattle.packing.specs.Walk.{choice}
 use Rattle.packing.proofs.WalkIsRival.{choice-none, choice-some, chosen-within, bestLast-zero}
 
--- where no net is worth more than c for each row that it needs
-module _ (job : Job) (earlier : List ℕ) (t c : ℕ) (cheap : (n : Net) → List·Memᴰ n (job .nets) → worth (job .board) n ≤ c * needed (job .board) n) where
+-- where no net weighs more than c for each row that it needs
+module _ (job : Job) (earlier : List ℕ) (t c : ℕ) (cheap : (n : Net) → List·Memᴰ n (job .nets) → weight n ≤ c * needed (job .board) n) where
   -- best of the last k rows
   abbrev Best : ℕ → ℕ
   Best k = bestLast job earlier t k

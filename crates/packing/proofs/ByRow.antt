@@ -14,7 +14,8 @@ use Rattle.lists.specs.Lists.{Each, EachPair, firstOf}
 use Rattle.lists.proofs.Cases.{by-test, by-option, and-both}
 use Rattle.lists.proofs.Laws.{Each-map, Each-at}
 use Rattle.board.specs.declared.Net.{Net}
-use Rattle.board.specs.Length.{Allowed, shortest, needed, worth}
+use Rattle.board.specs.Length.{Allowed, shortest, needed}
+use Rattle.board.specs.Weight.{weight}
 use Rattle.board.specs.Job.{Job}
 use Rattle.board.specs.Placement.{Placement, shortestAt}
 use Rattle.board.specs.Rival.{Rival, rivalSum}
@@ -121,7 +122,7 @@ module _ (job : Job) (earlier : List ℕ) (t : ℕ) where
       (λ e. firstOf-lowest (reaches job earlier t (job .board .rows - j)) (job .nets) n m r (rw e at c) i h)
 
   -- ---- best(j) is the largest sum of a rival sequence within rows j to H
-  best-most : (j : ℕ) (ps : List Placement) → Rival job earlier t ps → Each (λ p. j ≤ p .top) ps → rivalSum (job .board) ps ≤ Best j
+  best-most : (j : ℕ) (ps : List Placement) → Rival job earlier t ps → Each (λ p. j ≤ p .top) ps → rivalSum ps ≤ Best j
   unfolding best
   best-most j ps r a = rival-bound job earlier t ps (job .board .rows + 1 - j) r (Each-map ps (λ p h. omega arith) a)
 
@@ -187,7 +188,7 @@ module _ (job : Job) (earlier : List ℕ) (t : ℕ) where
           let e : k - (needed (job .board) m - 1) ≡ suc k - needed (job .board) m = omega arith in
           let a = table-at job earlier t k (needed (job .board) m - 1) (omega arith) in
           and-both (fitsAt job earlier t m (job .board .rows - k)) _ (rw row-here f)
-          (eq-eqb (worth (job .board) m + getD (table job earlier t k) (needed (job .board) m - 1) 0) (bestLast job earlier t (suc k))
+          (eq-eqb (weight m + getD (table job earlier t k) (needed (job .board) m - 1) 0) (bestLast job earlier t (suc k))
           (omega (arith, r .reached, last-here, last-below m, ap (bestLast job earlier t) e)))
 
       best-rose : (n : Net) → Choice j ≡ some n → Best j ≡ Best (j + 1) → ⊥

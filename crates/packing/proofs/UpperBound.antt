@@ -14,7 +14,8 @@ use Rattle.lists.specs.Lists.{Each}
 use Rattle.lists.proofs.Cases.{by-test}
 use Rattle.lists.proofs.Laws.{Each-map}
 use Rattle.board.specs.declared.Net.{Net}
-use Rattle.board.specs.Length.{needed, worth}
+use Rattle.board.specs.Length.{needed}
+use Rattle.board.specs.Weight.{weight}
 use Rattle.board.specs.Job.{Job}
 use Rattle.board.specs.Placement.{Placement, bottom}
 use Rattle.board.specs.Shrunk.{shrunk}
@@ -82,9 +83,9 @@ module _ (job : Job) (earlier : List ℕ) (t : ℕ) where
   pub bestLast-mono : (k m : ℕ) → k ≤ m → Best k ≤ Best m
   bestLast-mono k m h = le-ind (λ x. Best k ≤ Best x) (omega arith) (λ x _ below. omega (arith, bestLast-step x)) m h
 
-  -- a net that fits adds its worth to what lies below it
+  -- a net that fits adds its weight to what lies below it
   pub bestLast-net : (k : ℕ) (n : Net) → List·Memᴰ n (job .nets) → fits n (job .board .rows - k) ≡ true → needed (job .board) n ≤ suc k →
-      worth (job .board) n + Best (suc k - needed (job .board) n) ≤ Best (suc k)
+      weight n + Best (suc k - needed (job .board) n) ≤ Best (suc k)
   unfolding sumWith
   bestLast-net k n i f h =
       let p = needed-pos (job .board) n in
@@ -94,7 +95,7 @@ module _ (job : Job) (earlier : List ℕ) (t : ℕ) where
       omega (arith, bestLast-suc k, ap Best e)
 
   -- rivals within the last k rows
-  pub rival-bound : (ps : List Placement) (k : ℕ) → Rival job earlier t ps → Each (λ p. job .board .rows < p .top + k) ps → rivalSum (job .board) ps ≤ Best k
+  pub rival-bound : (ps : List Placement) (k : ℕ) → Rival job earlier t ps → Each (λ p. job .board .rows < p .top + k) ps → rivalSum ps ≤ Best k
   unfolding rivalSum
   rival-bound [] k r a = omega arith
   rival-bound (p ∷ ps) k r a =
@@ -112,6 +113,6 @@ module _ (job : Job) (earlier : List ℕ) (t : ℕ) where
       (Each-map ps (λ x h. omega (arith, s .legal, s .to-bottom)) (all-below p ps (r .rising .0) (r .apart .0))) in
       omega (arith, bestLast-mono (suc m) k (omega (arith, s .legal, s .from-top)))
 
-  pub rival-le-best : (ps : List Placement) → Rival job earlier t ps → rivalSum (job .board) ps ≤ best job earlier t 1
+  pub rival-le-best : (ps : List Placement) → Rival job earlier t ps → rivalSum ps ≤ best job earlier t 1
   unfolding best
   rival-le-best ps r = rival-bound ps (job .board .rows + 1 - 1) r (Each-map ps (λ p w. omega (arith, w .legal .from-one)) (r .placeable))

@@ -13,7 +13,8 @@ use Rattle.lists.specs.Lists.{Each}
 use Rattle.lists.proofs.Cases.{by-test, by-option, and-split, and-both}
 use Rattle.lists.proofs.Laws.{Each-map, firstOf-some, firstOf-none}
 use Rattle.board.specs.declared.Net.{Net}
-use Rattle.board.specs.Length.{Allowed, shortest, needed, worth}
+use Rattle.board.specs.Length.{Allowed, shortest, needed}
+use Rattle.board.specs.Weight.{weight}
 use Rattle.board.specs.Job.{Job}
 use Rattle.board.specs.Placement.{Placement, shortestAt}
 use Rattle.board.specs.Rival.{Rival, rivalSum}
@@ -66,7 +67,7 @@ module _ (job : Job) (earlier : List ℕ) (t : ℕ) where
   pub record Chosen (k : ℕ) (n : Net) : Type 0 where
     pub listed : List·Memᴰ n (job .nets)
     pub fit : fits n (job .board .rows - k) ≡ true
-    pub sum : worth (job .board) n + Best (suc k - needed (job .board) n) ≡ Best (suc k)
+    pub sum : weight n + Best (suc k - needed (job .board) n) ≡ Best (suc k)
 
   reached-reaches : (k : ℕ) (r : Reached (job .board .rows - k) (table job earlier t k) (job .nets) (bestAt job earlier t (job .board .rows - k) (table job earlier t k) (job .nets))) → reaches job earlier t k (r .net) ≡ true
   unfolding reaches
@@ -101,7 +102,7 @@ module _ (job : Job) (earlier : List ℕ) (t : ℕ) where
   pub record Walked (k skip : ℕ) (ps : List Placement) : Type 0 where
     pub rival : Rival job earlier t ps
     pub from : Each (λ p. job .board .rows + skip < p .top + k) ps
-    pub sum : rivalSum (job .board) ps ≡ Best (k - skip)
+    pub sum : rivalSum ps ≡ Best (k - skip)
 
   pub bestLast-zero : Best 0 ≡ 0
   unfolding bestLast table

@@ -5,13 +5,14 @@ use mathlib.Core.List.{List, [], _∷_}
 use lib.ListN.{getD}
 use Rattle.board.specs.declared.Board.{Board}
 use Rattle.board.specs.declared.Net.{Net}
-use Rattle.board.specs.Length.{needed, worth}
+use Rattle.board.specs.Length.{needed}
+use Rattle.board.specs.Weight.{weight}
 use Rattle.board.specs.Job.{Job}
 use Rattle.packing.specs.Fits.{fitsAt}
 
 -- the sum with net n's top at row j, where `below` is best(j + 1), best(j + 2), .. to best(H + 1)
 unfoldable pub sumWith : Board → List ℕ → Net → ℕ
-sumWith board below n = worth board n + getD below (needed board n - 1) 0
+sumWith board below n = weight n + getD below (needed board n - 1) 0
 
 module _ (job : Job) (earlier : List ℕ) (t : ℕ) where
   -- best(j), from `below` as above: the largest of best(j + 1) and the sums with the top of one of these nets at row j, where it fits there

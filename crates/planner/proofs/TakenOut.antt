@@ -5,7 +5,7 @@ use lib.ListN.{getD}
 use Rattle.lists.specs.Lists.{Each}
 use Rattle.board.specs.Length.{shortest}
 use Rattle.board.specs.Job.{Job}
-use Rattle.board.specs.Rival.{worthSum}
+use Rattle.board.specs.Weight.{weightSum}
 use Rattle.board.specs.Unbeaten.{emptyTrack, Unbeaten}
 use Rattle.planning.specs.Loose.{sumOfTracks}
 use Rattle.planner.specs.declared.JobPlan.{JobPlan}
@@ -22,5 +22,5 @@ module _ (job : Job) (plan : JobPlan) (b : BestPlan job plan) where
   shortest-is = b .at-shortest
 
   -- the sums balance
-  pub balance-is : worthSum (job .board) (job .nets) ≡ sumOfTracks (tracksOf job plan) + worthSum (job .board) (looseNets job plan)
+  pub balance-is : weightSum (job .nets) ≡ sumOfTracks (tracksOf job plan) + weightSum (looseNets job plan)
   balance-is = b .balance

@@ -10,7 +10,7 @@ use Rattle.board.specs.declared.Net.{Net}
 use Rattle.board.specs.Length.{shortest}
 use Rattle.board.specs.Job.{Job}
 use Rattle.board.specs.Placement.{Placement}
-use Rattle.board.specs.Rival.{worthSum}
+use Rattle.board.specs.Weight.{weightSum}
 use Rattle.board.specs.Unbeaten.{FilledTrack, emptyTrack, Unbeaten}
 use Rattle.planning.specs.Loose.{sumOfTracks}
 use Rattle.planner.specs.declared.Stand.{Stand}
@@ -60,9 +60,9 @@ unfoldable pub looseNets : Job → JobPlan → List Net
 looseNets job plan = looseFrom (job .nets) (plan .nets)
 
 -- a plan by value of which no track is beaten, with the wires of the earlier tracks held: no rival sequence has a larger sum, the wires
--- are a rival sequence and have that sum; each wire is at its net's shortest length; all sums and what the loose nets are worth are
--- what the nets of the job are worth
+-- are a rival sequence and have that sum; each wire is at its net's shortest length; all sums and the weights of the loose nets are
+-- the weights of the nets of the job
 pub record BestPlan (job : Job) (plan : JobPlan) : Type 0 where
   pub unbeaten : Unbeaten job (tracksOf job plan)
   pub at-shortest : (i : ℕ) → i < job .board .tracks → Each (λ p. p .shape ≡ shortest (job .board) (p .net)) (getD (tracksOf job plan) i emptyTrack .wires)
-  pub balance : worthSum (job .board) (job .nets) ≡ sumOfTracks (tracksOf job plan) + worthSum (job .board) (looseNets job plan)
+  pub balance : weightSum (job .nets) ≡ sumOfTracks (tracksOf job plan) + weightSum (looseNets job plan)

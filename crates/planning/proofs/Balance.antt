@@ -1,4 +1,4 @@
--- The balance: all sums of a plan plus what its loose nets are worth is what the nets of the job are worth. Assumes nothing.
+-- The balance: all sums of a plan plus the weights of its loose nets are the weights of the nets of the job. Assumes nothing.
 use Prim.Native.Nat.{ℕ, zero, suc, _+_, _<_}
 use mathlib.Core.Path.{_≡_, refl, sym, ap}
 use mathlib.Core.Logic.{⊎-elim}
@@ -11,10 +11,11 @@ use Rattle.lists.specs.Lists.{Each, EachPair, anyOf}
 use Rattle.lists.proofs.Cases.{by-test}
 use Rattle.lists.proofs.Laws.{Each-both, Each-at}
 use Rattle.board.specs.declared.Net.{Net}
-use Rattle.board.specs.Length.{Allowed, shortest, worth, upper}
+use Rattle.board.specs.Length.{Allowed, shortest, upper}
+use Rattle.board.specs.Weight.{weight, weightSum}
 use Rattle.board.specs.Job.{Job}
 use Rattle.board.specs.Placement.{Placement, Legal}
-use Rattle.board.specs.Rival.{Apart, Rival, rivalSum, worthSum}
+use Rattle.board.specs.Rival.{Apart, Rival, rivalSum}
 use Rattle.board.specs.Unbeaten.{numbers, numbersOn}
 use Rattle.board.specs.Accepted.{AcceptedJob}
 use Rattle.board.proofs.ShortestShape.{span-add}
@@ -54,8 +55,8 @@ on-move x (y ∷ on) b n =
 
 module _ (job : Job) where
   take-out : (on : List ℕ) (ns : List Net) (n : Net) → EachPair (λ a b. a .number < b .number) ns → List·Memᴰ n ns → isOn on n ≡ false →
-      worthSum (job .board) (without on ns) ≡ worth (job .board) n + worthSum (job .board) (without (n .number ∷ on) ns)
-  unfolding without worthSum
+      weightSum (without on ns) ≡ weight n + weightSum (without (n .number ∷ on) ns)
+  unfolding without weightSum
   take-out on [] n r i h = absurd (List·Memᴰ·not-nil i)
   take-out on (m ∷ ms) n r i h =
       ⊎-elim
@@ -100,7 +101,7 @@ module _ (job : Job) where
         }
 
     rival-out : (ps : List Placement) (on : List ℕ) (t : ℕ) → Rival job on t ps →
-        worthSum (job .board) (without on (job .nets)) ≡ rivalSum (job .board) ps + worthSum (job .board) (without (on ++ numbers ps) (job .nets))
+        weightSum (without on (job .nets)) ≡ rivalSum ps + weightSum (without (on ++ numbers ps) (job .nets))
     unfolding rivalSum
     rival-out [] on t r = rw (append-nil on) (omega arith)
     rival-out (p ∷ ps) on t r =
@@ -109,13 +110,13 @@ module _ (job : Job) where
           arith,
           take-out on (job .nets) (p .net) rise (w .of-job) (not-on on (p .net) (w .eligible .fresh)),
           rival-out ps (p .net .number ∷ on) t (next-rival on t p ps r),
-          ap (worthSum (job .board)) (without-same ((p .net .number ∷ on) ++ numbers ps) (on ++ (p .net .number ∷ numbers ps)) (job .nets) (on-move (p .net .number) on (numbers ps))),
+          ap weightSum (without-same ((p .net .number ∷ on) ++ numbers ps) (on ++ (p .net .number ∷ numbers ps)) (job .nets) (on-move (p .net .number) on (numbers ps))),
         )
 
     -- ---- the sum rule
     module _ (allowed : (n : Net) → List·Memᴰ n (job .nets) → Allowed (job .board) n (shortest (job .board) n)) where
-      plan-out : (k t : ℕ) (on : List ℕ) → worthSum (job .board) (without on (job .nets)) ≡
-          sumOfTracks (planFrom job k t on) + worthSum (job .board) (without (on ++ numbersOn (planFrom job k t on)) (job .nets))
+      plan-out : (k t : ℕ) (on : List ℕ) → weightSum (without on (job .nets)) ≡
+          sumOfTracks (planFrom job k t on) + weightSum (without (on ++ numbersOn (planFrom job k t on)) (job .nets))
       unfolding planFrom filledTrack sumOfTracks numbersOn
       plan-out zero t on = rw (append-nil on) (omega arith)
       plan-out (suc k) t on =
@@ -124,7 +125,7 @@ module _ (job : Job) where
           let a = rival-out ws on t (track-optimal job allowed on t .rival) in
           let b = track-optimal job allowed on t .sum-is in
           let c = plan-out k (suc t) (on ++ numbers ws) in
-          let d = ap (λ l. worthSum (job .board) (without l (job .nets))) (append-assoc on (numbers ws) (numbersOn rest)) in
+          let d = ap (λ l. weightSum (without l (job .nets))) (append-assoc on (numbers ws) (numbersOn rest)) in
           omega arith
 
 without-none : (ns : List Net) → without [] ns ≡ ns
@@ -132,7 +133,7 @@ unfolding without isOn anyOf
 without-none [] = refl
 without-none (n ∷ ns) = ap (λ l. n ∷ l) (without-none ns)
 
-pub sums-add-up : (job : Job) → AcceptedJob job → worthSum (job .board) (job .nets) ≡ sumOfTracks (planOf job) + worthSum (job .board) (looseOf job (planOf job))
+pub sums-add-up : (job : Job) → AcceptedJob job → weightSum (job .nets) ≡ sumOfTracks (planOf job) + weightSum (looseOf job (planOf job))
 unfolding planOf looseOf
 sums-add-up job a =
     let p = plan-out job (a .numbers-rise) (all-allowed job a) (job .board .tracks) 1 [] in

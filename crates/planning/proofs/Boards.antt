@@ -1,4 +1,4 @@
--- Plans computed: document 01's worked board, its board of the long net, and one where the most rows are not the most nets. Assumes nothing.
+-- Plans computed: document 01's worked board, its board of the long net, and one where a weight turns the choice over. Assumes nothing.
 use Prim.Native.Nat.{ℕ}
 use mathlib.Core.Path.{_≡_, refl, ap, _∙_}
 use mathlib.Core.List.{List, [], _∷_}
@@ -7,7 +7,8 @@ use lib.ListN.{length, getD}
 use Rattle.lists.specs.Lists.{anyOf, allOf, firstOf}
 use Rattle.board.specs.declared.Net.{Net}
 use Rattle.board.specs.declared.Shape.the-variants.{Plain, Stretched}
-use Rattle.board.specs.Length.{width, upper, lower, span, plainLength, shortest, needed, worth}
+use Rattle.board.specs.Length.{width, upper, lower, span, plainLength, shortest, needed}
+use Rattle.board.specs.Weight.{weight}
 use Rattle.board.specs.Job.{Job, closesRow, blocked}
 use Rattle.board.specs.Placement.{placementAt, covered, firstTop, lastTop}
 use Rattle.board.specs.Unbeaten.{FilledTrack, emptyTrack, numbersOn}
@@ -15,6 +16,7 @@ use Rattle.board.specs.Tests.{clearRows, isOn, isBefore, isReady, isEligible}
 use Rattle.board.specs.WorkedBoard.{workedJob, net1, net2, net3, net4, net5}
 use Rattle.board.specs.TriedBoards.{triedBoard, triedNet}
 use Rattle.board.specs.RivalExamples.{otherTop}
+use Rattle.board.specs.WeightedBoard.{weightedJob, longAlone, twoShort}
 use Rattle.packing.specs.Fits.{fitsAt}
 use Rattle.packing.specs.Best.{sumWith, bestAt, table, bestLast, best}
 use Rattle.packing.specs.Walk.{reaches, choice, walk, walkFrom, wiresOf}
@@ -23,12 +25,12 @@ use Rattle.planning.specs.Loose.{without, looseOf}
 
 -- the plan of a job. To unfold this is to unfold all that it computes with
 unfoldable planned : Job → List FilledTrack
-unfolding planOf planFrom filledTrack wiresOf walkFrom walk choice reaches best bestLast table bestAt fitsAt sumWith firstTop lastTop covered isEligible isReady isBefore isOn clearRows blocked closesRow worth needed shortest plainLength span upper lower width anyOf allOf firstOf
+unfolding planOf planFrom filledTrack wiresOf walkFrom walk choice reaches best bestLast table bestAt fitsAt sumWith firstTop lastTop covered isEligible isReady isBefore isOn clearRows blocked closesRow weight needed shortest plainLength span upper lower width anyOf allOf firstOf
 planned job = planOf job
 
 -- the nets that the plan of a job leaves loose, in the same way
 unfoldable left : Job → List Net
-unfolding looseOf without numbersOn planOf planFrom filledTrack wiresOf walkFrom walk choice reaches best bestLast table bestAt fitsAt sumWith firstTop lastTop covered isEligible isReady isBefore isOn clearRows blocked closesRow worth needed shortest plainLength span upper lower width anyOf allOf firstOf
+unfolding looseOf without numbersOn planOf planFrom filledTrack wiresOf walkFrom walk choice reaches best bestLast table bestAt fitsAt sumWith firstTop lastTop covered isEligible isReady isBefore isOn clearRows blocked closesRow weight needed shortest plainLength span upper lower width anyOf allOf firstOf
 left job = looseOf job (planOf job)
 
 -- track 1: nets 1, 2 (stretched over row 5) and 3, sum 9; track 2: net 4, sum 2
@@ -49,17 +51,17 @@ unfolding left
 worked-loose = refl
 
 -- rows 21, tracks 1, net 10 to 14 with min = max = 23: of its eight tops the walk takes the last, 10
-pub long-plan : planOf (record { board = triedBoard 21; nets = triedNet 23 23 ∷ []; blocks = [] }) ≡
-    record { sum = 12; wires = placementAt (triedNet 23 23) (Stretched 7) 10 ∷ [] } ∷ []
+pub long-plan : planOf (record { board = triedBoard 21; nets = triedNet 23 23 12 ∷ []; blocks = [] }) ≡
+    record { sum = 12; wires = placementAt (triedNet 23 23 12) (Stretched 7) 10 ∷ [] } ∷ []
 unfolding planned
 long-plan = refl
 
--- net k from row l to row r, of any length
-abbrev netFrom : ℕ → ℕ → ℕ → Net
-netFrom k l r = record { number = k; left = record { 0 = l }; right = record { 0 = r }; min = 0; max = 4095 }
-
--- the most rows, not the most nets: the one net over rows 1 to 6 is taken, and not the two over rows 2 to 3 and 4 to 5
-pub most-rows-plan : planOf (record { board = triedBoard 6; nets = netFrom 1 1 6 ∷ netFrom 2 2 3 ∷ netFrom 3 4 5 ∷ []; blocks = [] }) ≡
-    record { sum = 6; wires = placementAt (netFrom 1 1 6) Plain 1 ∷ [] } ∷ []
+-- with a weight that is the needed rows the plan has the most rows, not the most nets: net 1 alone, over rows 1 to 6
+pub most-rows-plan : planOf (weightedJob 2) ≡ record { sum = 6; wires = longAlone } ∷ []
 unfolding planned
 most-rows-plan = refl
+
+-- with a weight of 7 it is the heaviest, not the most rows: nets 2 and 3
+pub heaviest-plan : planOf (weightedJob 7) ≡ record { sum = 9; wires = twoShort 7 } ∷ []
+unfolding planned
+heaviest-plan = refl

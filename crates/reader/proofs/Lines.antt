@@ -2,7 +2,7 @@
 use Prim.Native.Nat.{ℕ, zero, suc}
 use mathlib.Core.Path.{_≡_, refl, sym, ap, _∙_}
 use mathlib.Core.Bool.{Bool, true, false, true≢false}
-use lib.Dec.{eqb}
+use lib.Dec.{eqb, ltb}
 use borrow.Author.Tests.{eqb-true}
 use native.Mathlib.Omega.{arith}
 use Rattle.lists.proofs.Cases.{by-test}
@@ -11,14 +11,15 @@ use Rattle.board.specs.declared.Block.{Block}
 use Rattle.board.specs.declared.StoredJob.{StoredJob}
 use Rattle.board.specs.Job.{Job}
 use Rattle.board.specs.Stored.{jobOf}
+use Rattle.jobfile.specs.declared.Optional.{Optional}
 use Rattle.jobfile.specs.declared.Form.{Form}
 use Rattle.jobfile.specs.declared.Form.the-variants as Is
 use Rattle.jobfile.specs.declared.Outcome.{Outcome}
 use Rattle.jobfile.specs.declared.Outcome.the-variants.{Accepted, NotOfForm, OutOfRange}
-use Rattle.jobfile.specs.Read.{State, Next, go, stop, sized, filled, unless, within, atStart, atOpened, atSized, atFilled, netOf, blockOf, boardOf, emptyJob, addNet, addBlock, step}
+use Rattle.jobfile.specs.Read.{State, Next, go, stop, sized, filled, unless, within, atStart, atOpened, atSized, atFilled, netOf, withWeight, netGiven, blockOf, boardOf, emptyJob, testNet, isAbove, addNet, addBlock, step}
 use Rattle.jobfile.specs.Answers.{numberOf}
 use Rattle.jobrules.specs.Rules.{outcomeOf, NetsAbove}
-use Rattle.jobrules.proofs.Outcomes.{Passes}
+use Rattle.jobrules.proofs.Outcomes.{Passes, weight-same}
 use Rattle.reader.specs.LinesAbove.{formStands, entryOf, stateOf, Filled, Held, AboveOf}
 use Rattle.reader.specs.declared.lines_above.LinesAbove.{LinesAbove}
 use Rattle.reader.proofs.Slots.{nets-used}
@@ -65,7 +66,7 @@ wrong-place k stage job Is.Blank e = absurd (true≢false e)
 wrong-place k stage job Is.Board e = no-start k stage job _ e
 wrong-place k stage job (Is.Rows h) e = no-opened k stage job _ e
 wrong-place k stage job (Is.Tracks t) e = no-sized k stage job _ e
-wrong-place k stage job (Is.Net i l r lo hi) e = no-filled k stage job _ e
+wrong-place k stage job (Is.Net i l r lo hi w) e = no-filled k stage job _ e
 wrong-place k stage job (Is.Block t a b) e = no-filled k stage job _ e
 wrong-place k stage job Is.Close e = no-filled k stage job _ e
 wrong-place k stage job Is.Other e = refl
@@ -86,10 +87,10 @@ module _ (k stage : ℕ) (job : StoredJob) (form : Form) where
   unfolding formStands step stateOf atSized
   tracks-place t e p = let s : stage ≡ 2 = at-stage 2 (ap (formStands stage) e) p in rw (e, s)
 
-  pub net-place : (i l r lo hi : ℕ) → form ≡ Is.Net i l r lo hi → formStands stage form ≡ true →
-      addNet k (netOf i l r lo hi) (jobOf job) ≡ step k (stateOf stage job) form
+  pub net-place : (i l r lo hi : ℕ) (w : Optional) → form ≡ Is.Net i l r lo hi w → formStands stage form ≡ true →
+      addNet k (netGiven (job .board) i l r lo hi w) w (jobOf job) ≡ step k (stateOf stage job) form
   unfolding formStands step stateOf atFilled
-  net-place i l r lo hi e p = let s : stage ≡ 3 = at-stage 3 (ap (formStands stage) e) p in rw (e, s)
+  net-place i l r lo hi w e p = let s : stage ≡ 3 = at-stage 3 (ap (formStands stage) e) p in rw (e, s)
 
   pub block-place : (t a b : ℕ) → form ≡ Is.Block t a b → formStands stage form ≡ true →
       addBlock k (blockOf t a b) (jobOf job) ≡ step k (stateOf stage job) form
@@ -101,9 +102,9 @@ module _ (k stage : ℕ) (job : StoredJob) (form : Form) where
     filled-here : stage ≡ 3 → Filled job
     filled-here s = rw s at (held .ranges)
 
-    pub net-filled : (i l r lo hi : ℕ) → form ≡ Is.Net i l r lo hi → formStands stage form ≡ true → Filled job
+    pub net-filled : (i l r lo hi : ℕ) (w : Optional) → form ≡ Is.Net i l r lo hi w → formStands stage form ≡ true → Filled job
     unfolding formStands
-    net-filled i l r lo hi e p = filled-here (at-stage 3 (ap (formStands stage) e) p)
+    net-filled i l r lo hi w e p = filled-here (at-stage 3 (ap (formStands stage) e) p)
 
     pub block-filled : (t a b : ℕ) → form ≡ Is.Block t a b → formStands stage form ≡ true → Filled job
     unfolding formStands
@@ -136,14 +137,23 @@ unfolding unless outcomeOf
 size-passed passed o s e = rw e
 
 -- a net stands behind `(tracks K)`
-pub net-stage : (stage : ℕ) (form : Form) (i l r lo hi : ℕ) → form ≡ Is.Net i l r lo hi → formStands stage form ≡ true → stage ≡ 3
+pub net-stage : (stage : ℕ) (form : Form) (i l r lo hi : ℕ) (w : Optional) → form ≡ Is.Net i l r lo hi w → formStands stage form ≡ true → stage ≡ 3
 unfolding formStands
-net-stage stage form i l r lo hi e t = eqb-true stage 3 (sym (ap (formStands stage) e) ∙ t)
+net-stage stage form i l r lo hi w e t = eqb-true stage 3 (sym (ap (formStands stage) e) ∙ t)
 
 -- what is held of the nets above a line
-pub nets-above : (a : LinesAbove) (job : StoredJob) → AboveOf a job → Filled job → NetsAbove (jobOf job) (a .board) (a .nnets) (a .last) (a .used)
+pub nets-above : (a : LinesAbove) (job : StoredJob) → AboveOf a job → Filled job → NetsAbove (jobOf job) (a .board) (a .nnets) (a .used)
 nets-above a job h f =
-    record { size-is = h .board-is; count-is = nets-used job f ∙ h .nnets-is; last-is = h .nets-are .last-is; pins = h .nets-are .pins }
+    record { size-is = h .board-is; count-is = nets-used job f ∙ h .nnets-is; pins = h .nets-are .pins }
+
+-- a net below the lines above, tested with the number of the last of them
+pub net-below : (k : ℕ) (a : LinesAbove) (job : StoredJob) (form : Form) (i l r lo hi : ℕ) (w : Optional) (s : State) → AboveOf a job →
+    form ≡ Is.Net i l r lo hi w → formStands (a .stage) form ≡ true →
+    outcomeOf (testNet k (ltb (a .last) i) (netOf i l r lo hi 0) w (jobOf job) s) ≡ outcomeOf (step k (stateOf (a .stage) job) form)
+unfolding addNet isAbove
+net-below k a job form i l r lo hi w s h e p =
+    rw (← h .nets-are .last-is) (weight-same k _ (job .board) (netOf i l r lo hi 0) w (jobOf job) s _)
+    ∙ ap outcomeOf (net-place k (a .stage) job form i l r lo hi w e p)
 
 -- a line that is not refused stands in its place
 pub stands : (k stage : ℕ) (job : StoredJob) (form : Form) → Passes (step k (stateOf stage job) form) → formStands stage form ≡ true
@@ -153,20 +163,21 @@ stands k stage job form p =
 
 -- a line that gives a net or a block
 module _ (k stage : ℕ) (job : StoredJob) where
-  pub net-line : (form : Form) (n : Net) → OfNet n ≡ entryOf form → formStands stage form ≡ true →
-      (stage ≡ 3) × (step k (stateOf stage job) form ≡ addNet k n (jobOf job))
+  pub net-line : (form : Form) (n : Net) (w : Optional) → OfNet n w ≡ entryOf form → formStands stage form ≡ true →
+      (stage ≡ 3) × (step k (stateOf stage job) form ≡ addNet k (withWeight (job .board) n w) w (jobOf job))
   unfolding entryOf formStands step stateOf atFilled
-  net-line Is.Blank n e t = let z : _≡_ {A = ℕ} 0 1 = cc in absurd (omega arith)
-  net-line Is.Board n e t = let z : _≡_ {A = ℕ} 0 1 = cc in absurd (omega arith)
-  net-line (Is.Rows h) n e t = let z : _≡_ {A = ℕ} 0 1 = cc in absurd (omega arith)
-  net-line (Is.Tracks j) n e t = let z : _≡_ {A = ℕ} 0 1 = cc in absurd (omega arith)
-  net-line (Is.Net i l r lo hi) n e t =
+  net-line Is.Blank n w e t = let z : _≡_ {A = ℕ} 0 1 = cc in absurd (omega arith)
+  net-line Is.Board n w e t = let z : _≡_ {A = ℕ} 0 1 = cc in absurd (omega arith)
+  net-line (Is.Rows h) n w e t = let z : _≡_ {A = ℕ} 0 1 = cc in absurd (omega arith)
+  net-line (Is.Tracks j) n w e t = let z : _≡_ {A = ℕ} 0 1 = cc in absurd (omega arith)
+  net-line (Is.Net i l r lo hi v) n w e t =
       let s : stage ≡ 3 = eqb-true stage 3 t in
-      let q : n ≡ netOf i l r lo hi = cc in
-      (s, rw (s, q))
-  net-line (Is.Block j a b) n e t = let z : _≡_ {A = ℕ} 0 1 = cc in absurd (omega arith)
-  net-line Is.Close n e t = let z : _≡_ {A = ℕ} 0 1 = cc in absurd (omega arith)
-  net-line Is.Other n e t = let z : _≡_ {A = ℕ} 0 1 = cc in absurd (omega arith)
+      let q : n ≡ netOf i l r lo hi 0 = cc in
+      let p : w ≡ v = cc in
+      (s, rw (s, q, p))
+  net-line (Is.Block j a b) n w e t = let z : _≡_ {A = ℕ} 0 1 = cc in absurd (omega arith)
+  net-line Is.Close n w e t = let z : _≡_ {A = ℕ} 0 1 = cc in absurd (omega arith)
+  net-line Is.Other n w e t = let z : _≡_ {A = ℕ} 0 1 = cc in absurd (omega arith)
 
   pub block-line : (form : Form) (b : Block) → OfBlock b ≡ entryOf form → formStands stage form ≡ true →
       (stage ≡ 3) × (step k (stateOf stage job) form ≡ addBlock k b (jobOf job))
@@ -175,7 +186,7 @@ module _ (k stage : ℕ) (job : StoredJob) where
   block-line Is.Board b e t = let z : _≡_ {A = ℕ} 0 1 = cc in absurd (omega arith)
   block-line (Is.Rows h) b e t = let z : _≡_ {A = ℕ} 0 1 = cc in absurd (omega arith)
   block-line (Is.Tracks j) b e t = let z : _≡_ {A = ℕ} 0 1 = cc in absurd (omega arith)
-  block-line (Is.Net i l r lo hi) b e t = let z : _≡_ {A = ℕ} 0 1 = cc in absurd (omega arith)
+  block-line (Is.Net i l r lo hi w) b e t = let z : _≡_ {A = ℕ} 0 1 = cc in absurd (omega arith)
   block-line (Is.Block j x y) b e t =
       let s : stage ≡ 3 = eqb-true stage 3 t in
       let q : b ≡ blockOf j x y = cc in

@@ -9,7 +9,7 @@ use borrow.Author.Tests.{le-leb, lt-leb}
 use Rattle.board.specs.declared.Net.{Net}
 use Rattle.board.specs.declared.Block.{Block}
 use Rattle.board.specs.declared.StoredJob.{StoredJob}
-use Rattle.board.specs.Accepted.{BoardInRange}
+use Rattle.board.specs.Accepted.{BoardInRange, NetInRange}
 use Rattle.board.specs.Stored.{jobOf, storedOf}
 use Rattle.text.specs.Bytes.{lines}
 use Rattle.lines.specs.Places.{stepAt}
@@ -17,11 +17,12 @@ use Rattle.lines.specs.declared.Step.{Step}
 use Rattle.lines.specs.declared.Step.the-variants.{Line, End}
 use Rattle.lines.specs.Stepped.{Stepped}
 use Rattle.lines.proofs.Steps.{stepped, end-of-lines}
+use Rattle.jobfile.specs.declared.Optional.{Optional}
 use Rattle.jobfile.specs.declared.Form.{Form}
 use Rattle.jobfile.specs.declared.Outcome.{Outcome}
 use Rattle.jobfile.specs.declared.Outcome.the-variants.{Accepted, TooLong, NotOfForm}
 use Rattle.jobfile.specs.Forms.{readForm}
-use Rattle.jobfile.specs.Read.{State, start, Next, go, stop, step, Read, refused, ended, follow, readFrom, readJob}
+use Rattle.jobfile.specs.Read.{withWeight, State, start, Next, go, stop, step, Read, refused, ended, follow, readFrom, readJob}
 use Rattle.jobfile.specs.Answers.{numberOf, noJob, answerOf}
 use Rattle.jobrules.specs.Rules.{outcomeOf, RowsInRange}
 use Rattle.jobrules.proofs.Outcomes.{Passes}
@@ -32,7 +33,7 @@ use Rattle.reader.specs.declared.cursor.FormStep.the-variants as At
 use Rattle.reader.specs.declared.lines_above.LinesAbove.{LinesAbove}
 use Rattle.reader.specs.declared.lines_above.Entry.the-variants.{OfNet, OfBlock, Nothing}
 use Rattle.reader.proofs.States.{SizedState, LeadsOn, state-back, held-of, held-good, step-sound}
-use Rattle.reader.proofs.Taken.{GoesOn, head-on, head-nets, net-room, net-rows, net-on, net-nets, block-room, block-on, block-nets}
+use Rattle.reader.proofs.Taken.{GoesOn, head-on, head-nets, net-room, net-given, net-rows, net-on, net-nets, block-room, block-on, block-nets}
 
 -- the line behind a form that was read
 
@@ -148,17 +149,24 @@ module _ (s : List ℕ) (a : LinesAbove) (slots : StoredJob) (p : Cursor) (w : L
             (left-on (headAfter a x) slots (head-on (p .place .passed + 1) a slots (w .held) x t passes)
             (head-nets (p .place .passed + 1) a slots (w .held) x (w .nets-are)))
 
-        module _ (m : Net) (t : OfNet m ≡ entryOf x) where
+        module _ (given : Net) (weight : Optional) (t : OfNet given weight ≡ entryOf x) where
+          -- the net with its weight
+          abbrev m : Net
+          m = withWeight (a .board) given weight
+
+          pub left-given : BoardInRange (a .board) × NetInRange (a .board) given
+          left-given = net-given (p .place .passed + 1) a slots (w .held) x given weight t passes
+
           pub left-room : a .nnets < 512
-          left-room = net-room (p .place .passed + 1) a slots (w .held) x m t passes
+          left-room = net-room (p .place .passed + 1) a slots (w .held) x given weight t passes
 
           pub left-rows : RowsInRange m
-          left-rows = net-rows (p .place .passed + 1) a slots (w .held) x m t passes
+          left-rows = net-rows (p .place .passed + 1) a slots (w .held) x given weight t passes
 
           pub left-net : (r : LinesAbove) (more : StoredJob) → NetAfter a m r → more .nets ≡ set (slots .nets) (a .nnets) m → more .blocks ≡ slots .blocks → LinesLeft s r more n
           left-net r more k g b =
-              left-on r more (net-on (p .place .passed + 1) a slots (w .held) x m t passes r k more g b)
-              (net-nets (p .place .passed + 1) a slots (w .held) x m t passes r k more g b (w .nets-are))
+              left-on r more (net-on (p .place .passed + 1) a slots (w .held) x given weight t passes r k more g b)
+              (net-nets (p .place .passed + 1) a slots (w .held) x given weight t passes r k more g b (w .nets-are))
 
         module _ (b : Block) (t : OfBlock b ≡ entryOf x) where
           pub left-block-room : a .nblocks < 256

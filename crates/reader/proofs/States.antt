@@ -13,11 +13,12 @@ use Rattle.board.specs.declared.StoredJob.{StoredJob}
 use Rattle.board.specs.Job.{Job}
 use Rattle.board.specs.Accepted.{BoardInRange}
 use Rattle.board.specs.Stored.{jobOf, storedOf}
+use Rattle.jobfile.specs.declared.Optional.{Optional}
 use Rattle.jobfile.specs.declared.Form.{Form}
 use Rattle.jobfile.specs.declared.Form.the-variants as Is
 use Rattle.jobfile.specs.declared.Outcome.{Outcome}
 use Rattle.jobfile.specs.declared.Outcome.the-variants.{NotOfForm}
-use Rattle.jobfile.specs.Read.{State, start, opened, sized, filled, closed, Next, go, stop, unless, atStart, atOpened, atSized, atFilled, netOf, blockOf, boardOf, emptyJob, addNet, addBlock, step}
+use Rattle.jobfile.specs.Read.{State, start, opened, sized, filled, closed, Next, go, stop, unless, atStart, atOpened, atSized, atFilled, netGiven, blockOf, boardOf, emptyJob, testNet, addNet, addBlock, step}
 use Rattle.jobfile.specs.Answers.{numberOf, lineOf}
 use Rattle.jobfile.proofs.Tests.{within-is}
 use Rattle.board.proofs.StoredJobs.{job-back}
@@ -101,8 +102,8 @@ unfolding unless
 unless-sound k true o x h l f = f refl
 unless-sound k false o x h l f = (h, l)
 
-net-sound : (k : ℕ) (n : Net) (job : Job) → Sized job → LeadsOn k (addNet k n job)
-unfolding addNet
+net-sound : (k : ℕ) (n : Net) (w : Optional) (job : Job) → Sized job → LeadsOn k (addNet k n w job)
+unfolding addNet testNet
 net-sound k n job g =
     unless-sound k _ _ _ (λ z. omega arith) refl (λ e3.
     unless-sound k _ _ _ (λ z. omega arith) refl (λ e4.
@@ -173,7 +174,8 @@ step-sound k s (Is.Rows h) g =
 step-sound k s (Is.Tracks t) g =
     sized-sound k s _ g (λ h r.
     unless-sound k _ _ (go (filled (emptyJob (boardOf h t)))) (λ z. omega arith) refl (λ e. empty-sized h t r (within-is 1 128 t .0 e)))
-step-sound k s (Is.Net i l r lo hi) g = filled-sound k s _ g (λ j a. net-sound k (netOf i l r lo hi) j a)
+step-sound k s (Is.Net i l r lo hi w) g =
+    filled-sound k s _ g (λ j a. net-sound k (netGiven (j .board) i l r lo hi w) w j a)
 step-sound k s (Is.Block t a b) g = filled-sound k s _ g (λ j c. block-sound k (blockOf t a b) j c)
 step-sound k s Is.Close g = filled-sound k s _ g (λ j a. a)
 step-sound k s Is.Other g = not-form k

@@ -10,10 +10,12 @@ use Rattle.board.specs.declared.Block.{Block}
 use Rattle.board.specs.declared.StoredJob.{StoredJob}
 use Rattle.board.specs.Job as J
 use Rattle.board.specs.Stored.{jobOf, storedOf}
+use Rattle.board.specs.Accepted.{BoardInRange, NetInRange}
+use Rattle.jobfile.specs.declared.Optional.{Optional}
 use Rattle.jobfile.specs.declared.Form.{Form}
 use Rattle.jobfile.specs.declared.Form.the-variants as Is
 use Rattle.jobfile.specs.declared.Outcome.the-variants.{OutOfRange}
-use Rattle.jobfile.specs.Read.{State, opened, sized, filled, closed, Next, go, unless, within, atStart, atOpened, atSized, atFilled, boardOf, emptyJob, withNet, withBlock, addNet, addBlock, step}
+use Rattle.jobfile.specs.Read.{State, opened, sized, filled, closed, Next, go, unless, within, atStart, atOpened, atSized, atFilled, boardOf, emptyJob, withWeight, withNet, withBlock, addNet, addBlock, step}
 use Rattle.jobfile.specs.Answers.{numberOf}
 use Rattle.board.proofs.StoredJobs.{job-back}
 use Rattle.jobrules.specs.Rules.{outcomeOf, RowsInRange}
@@ -91,7 +93,7 @@ module _ (k : ℕ) (a : LinesAbove) (slots : StoredJob) (h : Held (a .stage) (jo
   head-on Is.Board e p = board-on (eqb-true (a .stage) 0 (stands k (a .stage) (jobAbove a slots) Is.Board p))
   head-on (Is.Rows x) e p = rows-on x (eqb-true (a .stage) 1 (stands k (a .stage) (jobAbove a slots) (Is.Rows x) p)) p
   head-on (Is.Tracks x) e p = tracks-on x (eqb-true (a .stage) 2 (stands k (a .stage) (jobAbove a slots) (Is.Tracks x) p)) p
-  head-on (Is.Net i l r lo hi) e p = let z : _≡_ {A = ℕ} 0 1 = cc in absurd (omega arith)
+  head-on (Is.Net i l r lo hi w) e p = let z : _≡_ {A = ℕ} 0 1 = cc in absurd (omega arith)
   head-on (Is.Block t x y) e p = let z : _≡_ {A = ℕ} 0 1 = cc in absurd (omega arith)
   head-on Is.Close e p = close-on (eqb-true (a .stage) 3 (stands k (a .stage) (jobAbove a slots) Is.Close p))
   head-on Is.Other e p = absurd (not-other p)
@@ -102,28 +104,41 @@ module _ (k : ℕ) (a : LinesAbove) (slots : StoredJob) (h : Held (a .stage) (jo
   head-nets Is.Board p = record { last-is = p .last-is; pins = p .pins }
   head-nets (Is.Rows x) p = record { last-is = p .last-is; pins = p .pins }
   head-nets (Is.Tracks x) p = record { last-is = p .last-is; pins = p .pins }
-  head-nets (Is.Net i l r lo hi) p = p
+  head-nets (Is.Net i l r lo hi w) p = p
   head-nets (Is.Block t x y) p = p
   head-nets Is.Close p = record { last-is = p .last-is; pins = p .pins }
   head-nets Is.Other p = p
 
   -- ---- a line that gives a net
 
-  module _ (form : Form) (n : Net) (e : OfNet n ≡ entryOf form) (p : Passes (led form)) where
-    net-here : (a .stage ≡ 3) × (led form ≡ addNet k n (jobOf (jobAbove a slots)))
-    net-here = net-line k (a .stage) (jobAbove a slots) form n e (stands k (a .stage) (jobAbove a slots) form p)
+  module _ (form : Form) (given : Net) (weight : Optional) (e : OfNet given weight ≡ entryOf form) (p : Passes (led form)) where
+    -- the net with its weight
+    abbrev n : Net
+    n = withWeight (a .board) given weight
 
-    net-passes : Passes (addNet k n (jobOf (jobAbove a slots)))
+    net-here : (a .stage ≡ 3) × (led form ≡ addNet k n weight (jobOf (jobAbove a slots)))
+    net-here = net-line k (a .stage) (jobAbove a slots) form given weight e (stands k (a .stage) (jobAbove a slots) form p)
+
+    net-passes : Passes (addNet k n weight (jobOf (jobAbove a slots)))
     net-passes = passes-as (net-here .1) p
 
     net-filled : Filled (jobAbove a slots)
     net-filled = rw (net-here .0) at (h .ranges)
 
     pub net-room : a .nnets < 512
-    net-room = omega (arith, nets-used (jobAbove a slots) net-filled, net-few k n (jobOf (jobAbove a slots)) net-passes)
+    net-room = omega (arith, nets-used (jobAbove a slots) net-filled, net-few k n weight (jobOf (jobAbove a slots)) net-passes)
+
+    net-in-range : NetInRange (a .board) n
+    net-in-range = net-range-is (a .board) n weight .0 (net-ranged k n weight (jobOf (jobAbove a slots)) net-passes) .0
+
+    -- so are the numbers of the line
+    pub net-given : BoardInRange (a .board) × NetInRange (a .board) given
+    net-given =
+        let r = net-in-range in
+        (net-filled .board-range, record { number-range = r .number-range; left-range = r .left-range; right-range = r .right-range; bounds-range = r .bounds-range })
 
     pub net-rows : RowsInRange n
-    net-rows = rows-in-range (a .board) n (net-filled .board-range) (net-range-is (a .board) n .0 (net-ranged k n (jobOf (jobAbove a slots)) net-passes))
+    net-rows = rows-in-range (a .board) n (net-filled .board-range) net-in-range
 
     module _ (r : LinesAbove) (q : NetAfter a n r) (more : StoredJob) (g : more .nets ≡ set (slots .nets) (a .nnets) n) (b : more .blocks ≡ slots .blocks) where
       value-more : jobAbove r more ≡ storedOf (withNet (jobOf (jobAbove a slots)) n)
@@ -136,7 +151,7 @@ module _ (k : ℕ) (a : LinesAbove) (slots : StoredJob) (h : Held (a .stage) (jo
       net-on =
           record {
             state = filled (withNet (jobOf (jobAbove a slots)) n);
-            goes = net-here .1 ∙ net-goes k n (jobOf (jobAbove a slots)) net-passes;
+            goes = net-here .1 ∙ net-goes k n weight (jobOf (jobAbove a slots)) net-passes;
             stage-is = sym (q .stage-is ∙ net-here .0);
             value-is = sym value-more;
           }

@@ -24,18 +24,18 @@ formStands stage Is.Blank = true
 formStands stage Is.Board = eqb stage 0
 formStands stage (Is.Rows h) = eqb stage 1
 formStands stage (Is.Tracks k) = eqb stage 2
-formStands stage (Is.Net i l r lo hi) = eqb stage 3
+formStands stage (Is.Net i l r lo hi w) = eqb stage 3
 formStands stage (Is.Block t a b) = eqb stage 3
 formStands stage Is.Close = eqb stage 3
 formStands stage Is.Other = false
 
--- the net or the block that a line of this form gives
+-- the net, still without a weight, and its weight, or the block that a line of this form gives
 unfoldable pub entryOf : Form → Entry
 entryOf Is.Blank = Nothing
 entryOf Is.Board = Nothing
 entryOf (Is.Rows h) = Nothing
 entryOf (Is.Tracks k) = Nothing
-entryOf (Is.Net i l r lo hi) = OfNet (netOf i l r lo hi)
+entryOf (Is.Net i l r lo hi w) = OfNet (netOf i l r lo hi 0) w
 entryOf (Is.Block t a b) = OfBlock (blockOf t a b)
 entryOf Is.Close = Nothing
 entryOf Is.Other = Nothing
@@ -51,7 +51,7 @@ headAfter a Is.Blank = a
 headAfter a Is.Board = atStage 1 (a .board) a
 headAfter a (Is.Rows h) = atStage 2 (boardOf h 0) a
 headAfter a (Is.Tracks k) = atStage 3 (boardOf (a .board .rows) k) a
-headAfter a (Is.Net i l r lo hi) = a
+headAfter a (Is.Net i l r lo hi w) = a
 headAfter a (Is.Block t x y) = a
 headAfter a Is.Close = atStage 4 (a .board) a
 headAfter a Is.Other = a

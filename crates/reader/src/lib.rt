@@ -72,8 +72,9 @@ fn read_lines(text: &[u8]) -> Answer
             return refusal(outcome);
         }
         match entry_of(form) {
-            Entry::OfNet(net) => {
+            Entry::OfNet(given, weight) => {
                 let i = above.nnets;
+                let net = jobrules::with_weight(above.board, given, weight);
                 slots.nets[i] = net;
                 above = net_after(above, net);
             }

@@ -5,6 +5,7 @@ use board::Net;
 use board::Row;
 use board::Track;
 use jobfile::Form;
+use jobfile::Optional;
 use jobfile::Outcome;
 use jobrules::UsedPins;
 ghost use mathlib.Core.Path.{_≡_};
@@ -43,9 +44,9 @@ pub struct LinesAbove {
     pub used: UsedPins,
 }
 
-// What a line adds to the job.
+// What a line adds to the job: a net, still without a weight, and the weight that its line gives it; or a block.
 pub enum Entry {
-    OfNet(Net),
+    OfNet(Net, Optional),
     OfBlock(Block),
     Nothing,
 }
@@ -101,7 +102,7 @@ pub fn head_after(above: LinesAbove, form: Form) -> LinesAbove
             next.board.tracks = k;
             next
         }
-        Form::Net(_, _, _, _, _) => next,
+        Form::Net(_, _, _, _, _, _) => next,
         Form::Block(_, _, _) => next,
         Form::Close => {
             next.stage = CLOSED;
@@ -120,13 +121,17 @@ pub fn entry_of(form: Form) -> Entry
         Form::Board => Entry::Nothing,
         Form::Rows(_) => Entry::Nothing,
         Form::Tracks(_) => Entry::Nothing,
-        Form::Net(number, left, right, min, max) => Entry::OfNet(Net {
-            number,
-            left: Row(left),
-            right: Row(right),
-            min,
-            max,
-        }),
+        Form::Net(number, left, right, min, max, weight) => Entry::OfNet(
+            Net {
+                number,
+                left: Row(left),
+                right: Row(right),
+                min,
+                max,
+                weight: 0,
+            },
+            weight,
+        ),
         Form::Block(track, first, last) => Entry::OfBlock(Block {
             track: Track(track),
             first: Row(first),
@@ -146,7 +151,7 @@ fn form_stands(stage: usize, form: Form) -> bool
         Form::Board => stage == START,
         Form::Rows(_) => stage == OPENED,
         Form::Tracks(_) => stage == SIZED,
-        Form::Net(_, _, _, _, _) => stage == FILLED,
+        Form::Net(_, _, _, _, _, _) => stage == FILLED,
         Form::Block(_, _, _) => stage == FILLED,
         Form::Close => stage == FILLED,
         Form::Other => false,
@@ -176,15 +181,25 @@ pub fn form_outcome(above: LinesAbove, form: Form, line: usize) -> Outcome
         Form::Board => Outcome::Accepted,
         Form::Rows(h) => size_outcome(1024, h, line),
         Form::Tracks(k) => size_outcome(128, k, line),
-        Form::Net(number, left, right, min, max) => {
+        Form::Net(number, left, right, min, max, weight) => {
             let net = Net {
                 number,
                 left: Row(left),
                 right: Row(right),
                 min,
                 max,
+                weight: 0,
             };
-            jobrules::net_outcome(above.board, above.nnets, above.last, above.used, net, line)
+            let numbered = above.last < number;
+            jobrules::net_outcome(
+                above.board,
+                above.nnets,
+                above.used,
+                net,
+                weight,
+                numbered,
+                line,
+            )
         }
         Form::Block(track, first, last) => {
             let block = Block {

@@ -61,7 +61,7 @@ drawn-optimal job rise earlier t tp o =
     record {
       track-is = refl;
       most = λ ws r.
-          let sum : wiresSum job ws ≡ rivalSum (job .board) (r .places) =
+          let sum : wiresSum job ws ≡ rivalSum (r .places) =
           ap (wiresSum job) (r .drawn) ∙ wires-sum-of job rise t (r .places) (of-job (r .places) (r .rival)) in
           omega (arith, o .most (r .places) (r .rival));
       rival = record { places = tp .wires; rival = o .rival; drawn = refl };

@@ -12,7 +12,8 @@ use borrow.Author.Tests.{le-leb}
 use Rattle.lists.specs.Lists.{Each, firstOf}
 use Rattle.lists.proofs.Laws.{Each-map}
 use Rattle.board.specs.declared.Net.{Net}
-use Rattle.board.specs.Length.{width, upper, lower, span, plainLength, shortest, needed, worth}
+use Rattle.board.specs.Length.{width, upper, lower, span, plainLength, shortest, needed}
+use Rattle.board.specs.Weight.{weight}
 use Rattle.board.specs.Job.{Job}
 use Rattle.board.specs.Placement.{Placement, placementAt, shortestAt}
 use Rattle.board.specs.Accepted.{AcceptedJob}
@@ -30,7 +31,7 @@ use Rattle.layout.specs.ReadBack.{wordsIn, pointsOf, lineFrom, roughLine, add, 
 use Rattle.layout.specs.Drawing.{pointsOn, wireOf}
 use Rattle.layout.specs.Drawn.{netNumbered}
 use Rattle.layout.proofs.RoundTrip.{layout-text-injective}
-use Rattle.sound.specs.Wires.{RivalWires, worthBy, worthOf, sumOver, trackNumbers, wiresSum}
+use Rattle.sound.specs.Wires.{RivalWires, weightBy, weightOf, sumOver, trackNumbers, wiresSum}
 use Rattle.routing.specs.DrawnTracks.{drawnTracks, noTrack}
 use Rattle.routing.specs.Promises.{ShortestWire, ShortestText, OptimalTrack, UnbeatenText}
 
@@ -63,14 +64,14 @@ rival1 : RivalWires workedJob [] 1 wires1
 rival1 = record { places = track1; rival = track1-rival .0; drawn = refl }
 
 sum1 : wiresSum workedJob wires1 ≡ 9
-unfolding wiresSum sumOver worthOf worthBy netNumbered firstOf wireOf worth needed shortest plainLength span upper lower width
+unfolding wiresSum sumOver weightOf weightBy netNumbered firstOf wireOf weight needed shortest plainLength span upper lower width
 sum1 = refl
 
 rival2 : RivalWires workedJob (1 ∷ 2 ∷ 3 ∷ []) 2 wires2
 rival2 = record { places = track2; rival = track2-rival .0; drawn = refl }
 
 sum2 : wiresSum workedJob wires2 ≡ 2
-unfolding wiresSum sumOver worthOf worthBy netNumbered firstOf wireOf worth needed shortest plainLength span upper lower width
+unfolding wiresSum sumOver weightOf weightBy netNumbered firstOf wireOf weight needed shortest plainLength span upper lower width
 sum2 = refl
 
 -- all nets are left loose
@@ -111,7 +112,7 @@ abbrev undrawn : List Wire
 undrawn = record { number = 1; points = [] } ∷ record { number = 2; points = [] } ∷ record { number = 3; points = [] } ∷ []
 
 undrawn-sum : wiresSum workedJob undrawn ≡ 9
-unfolding wiresSum sumOver worthOf worthBy netNumbered firstOf worth needed shortest plainLength span upper lower width
+unfolding wiresSum sumOver weightOf weightBy netNumbered firstOf weight needed shortest plainLength span upper lower width
 undrawn-sum = refl
 
 undrawn-no-rival : (ps : List Placement) → undrawn ≡ map (wireOf workedBoard 1) ps → ⊥

@@ -1,4 +1,4 @@
--- The balance of a sound layout: all sums plus what the loose nets are worth is what the nets of the job are worth; and it has as many
+-- The balance of a sound layout: all sums plus the weights of the loose nets are the weights of the nets of the job; and it has as many
 -- lines of nets as the job has nets. Assumes nothing.
 use Prim.Native.Nat.{ℕ, suc, _+_, _<_}
 use mathlib.Core.Path.{_≡_, refl, sym}
@@ -9,22 +9,22 @@ use Rattle.lists.specs.Lists.{EachPair}
 use Rattle.lists.proofs.Laws.{Each-map}
 use Rattle.board.specs.declared.Net.{Net}
 use Rattle.board.specs.Job.{Job}
-use Rattle.board.specs.Rival.{worthSum}
+use Rattle.board.specs.Weight.{weightSum}
 use Rattle.board.specs.Accepted.{AcceptedJob}
 use Rattle.layout.specs.Tree.{DrawnTrack}
-use Rattle.sound.specs.Wires.{worthOf, sumOver, wireNumbers, trackNumbers, lineNumbers, wiresSum, printedSum}
+use Rattle.sound.specs.Wires.{weightOf, sumOver, wireNumbers, trackNumbers, lineNumbers, wiresSum, printedSum}
 use Rattle.sound.specs.Sound.{SoundTracks, Sound}
 use Rattle.lists.proofs.Joins.{Each-each, Each-mapped}
 use Rattle.sound.proofs.Sums.{Distinct, sum-le, sum-join, sum-ones}
 use Rattle.sound.proofs.Nets.{nets-sum}
 
-printed : (job : Job) (earlier : List ℕ) (t : ℕ) (trs : List DrawnTrack) → SoundTracks job earlier t trs → printedSum trs ≡ sumOver (worthOf job) (trackNumbers trs)
+printed : (job : Job) (earlier : List ℕ) (t : ℕ) (trs : List DrawnTrack) → SoundTracks job earlier t trs → printedSum trs ≡ sumOver (weightOf job) (trackNumbers trs)
 unfolding printedSum trackNumbers wiresSum sumOver
 printed job earlier t [] s = refl
 printed job earlier t (tr ∷ trs) s =
     omega (
       arith,
-      sum-join (worthOf job) (wireNumbers (tr .wires)) (trackNumbers trs),
+      sum-join (weightOf job) (wireNumbers (tr .wires)) (trackNumbers trs),
       printed job (earlier ++ wireNumbers (tr .wires)) (suc t) trs (s .1),
       s .0 .sum-is,
     )
@@ -55,13 +55,13 @@ module _ (job : Job) (a : AcceptedJob job) (text : List ℕ) (s : Sound job text
         length-map (job .nets) (λ n. n .number),
       )
 
-  pub balance : printedSum (s .layout .tracks) + sumOver (worthOf job) (s .layout .loose) ≡ worthSum (job .board) (job .nets)
+  pub balance : printedSum (s .layout .tracks) + sumOver (weightOf job) (s .layout .loose) ≡ weightSum (job .nets)
   unfolding lineNumbers
   balance =
       omega (
         arith,
         printed job [] 1 (s .layout .tracks) (s .tracks),
-        lines-nets (worthOf job),
-        sum-join (worthOf job) (trackNumbers (s .layout .tracks)) (s .layout .loose),
+        lines-nets (weightOf job),
+        sum-join (weightOf job) (trackNumbers (s .layout .tracks)) (s .layout .loose),
         nets-sum job (a .numbers-rise) (job .nets) (Each-each (job .nets) (λ n i. i)),
       )

@@ -18,7 +18,7 @@ use Rattle.board.specs.Length.{width}
 use Rattle.board.specs.Job.{Job}
 use Rattle.board.specs.Placement.{Placement, bottom}
 use Rattle.board.specs.Accepted.{BoardInRange, NetInRange, AcceptedJob}
-use Rattle.board.proofs.JobWorth.{job-worth}
+use Rattle.board.proofs.JobWeight.{job-weight}
 use Rattle.text.specs.Digits.{digits}
 use Rattle.text.proofs.Numbers.{length-digits}
 use Rattle.layout.specs.declared.Point.{Point}
@@ -223,7 +223,7 @@ module _ (job : Job) (a : AcceptedJob job) where
     unfolding lineNumbers
     sound-bounded =
         let k = a .nets-count in
-        let total = job-worth job a in
+        let total = job-weight job a in
         record {
           tracks = track-bounds [] 1 (s .layout .tracks) (s .tracks) (omega (arith, s .count)) (omega (arith, balance job a text s));
           loose = Each-each (s .layout .loose) (λ j i.

@@ -10,15 +10,15 @@ use Rattle.lists.specs.Lists.{Each, EachPair}
 use Rattle.lists.proofs.Cases.{by-option}
 use Rattle.lists.proofs.Laws.{firstOf-some, firstOf-none}
 use Rattle.board.specs.declared.Net.{Net}
-use Rattle.board.specs.Length.{worth}
+use Rattle.board.specs.Weight.{weight, weightSum}
 use Rattle.board.specs.Job.{Job}
 use Rattle.board.specs.Placement.{Placement}
-use Rattle.board.specs.Rival.{rivalSum, worthSum}
+use Rattle.board.specs.Rival.{rivalSum}
 use Rattle.board.specs.Unbeaten.{numbers}
 use Rattle.board.proofs.SameNumber.{same-number}
 use Rattle.layout.specs.Drawing.{wireOf}
 use Rattle.layout.specs.Drawn.{netNumbered}
-use Rattle.sound.specs.Wires.{worthBy, worthOf, sumOver, wireNumbers, wiresSum}
+use Rattle.sound.specs.Wires.{weightBy, weightOf, sumOver, wireNumbers, wiresSum}
 
 pub wire-numbers : (job : Job) (t : ℕ) (ps : List Placement) → wireNumbers (map (wireOf (job .board) t) ps) ≡ numbers ps
 unfolding wireOf
@@ -37,20 +37,20 @@ module _ (job : Job) (rise : EachPair (λ a b. a .number < b .number) (job .nets
       (λ e. absurd (true≢false (sym (eq-eqb (n .number) (n .number) refl) ∙ firstOf-none (λ m. eqb (m .number) (n .number)) (job .nets) n e i)))
       (λ m e. let f = net-some job (n .number) m e in e ∙ ap some (same-number (job .nets) rise m n (f .0) i (f .1)))
 
-  pub worth-of : (n : Net) → List·Memᴰ n (job .nets) → worthOf job (n .number) ≡ worth (job .board) n
-  unfolding worthOf worthBy
-  worth-of n i = rw (net-of n i)
+  pub weight-of : (n : Net) → List·Memᴰ n (job .nets) → weightOf job (n .number) ≡ weight n
+  unfolding weightOf weightBy
+  weight-of n i = rw (net-of n i)
 
-  pub placed-sum : (ps : List Placement) → Each (λ p. List·Memᴰ (p .net) (job .nets)) ps → sumOver (worthOf job) (numbers ps) ≡ rivalSum (job .board) ps
+  pub placed-sum : (ps : List Placement) → Each (λ p. List·Memᴰ (p .net) (job .nets)) ps → sumOver (weightOf job) (numbers ps) ≡ rivalSum ps
   unfolding rivalSum sumOver
   placed-sum [] a = refl
-  placed-sum (p ∷ ps) a = ap₂ (λ x y. x + y) (worth-of (p .net) (a .0)) (placed-sum ps (a .1))
+  placed-sum (p ∷ ps) a = ap₂ (λ x y. x + y) (weight-of (p .net) (a .0)) (placed-sum ps (a .1))
 
-  pub wires-sum-of : (t : ℕ) (ps : List Placement) → Each (λ p. List·Memᴰ (p .net) (job .nets)) ps → wiresSum job (map (wireOf (job .board) t) ps) ≡ rivalSum (job .board) ps
+  pub wires-sum-of : (t : ℕ) (ps : List Placement) → Each (λ p. List·Memᴰ (p .net) (job .nets)) ps → wiresSum job (map (wireOf (job .board) t) ps) ≡ rivalSum ps
   unfolding wiresSum
-  wires-sum-of t ps a = ap (sumOver (worthOf job)) (wire-numbers job t ps) ∙ placed-sum ps a
+  wires-sum-of t ps a = ap (sumOver (weightOf job)) (wire-numbers job t ps) ∙ placed-sum ps a
 
-  pub nets-sum : (ns : List Net) → Each (λ n. List·Memᴰ n (job .nets)) ns → sumOver (worthOf job) (map (λ n. n .number) ns) ≡ worthSum (job .board) ns
-  unfolding worthSum sumOver
+  pub nets-sum : (ns : List Net) → Each (λ n. List·Memᴰ n (job .nets)) ns → sumOver (weightOf job) (map (λ n. n .number) ns) ≡ weightSum ns
+  unfolding weightSum sumOver
   nets-sum [] a = refl
-  nets-sum (n ∷ ns) a = ap₂ (λ x y. x + y) (worth-of n (a .0)) (nets-sum ns (a .1))
+  nets-sum (n ∷ ns) a = ap₂ (λ x y. x + y) (weight-of n (a .0)) (nets-sum ns (a .1))

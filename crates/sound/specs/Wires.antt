@@ -4,7 +4,7 @@ use mathlib.Core.Path.{_≡_}
 use mathlib.Core.Option.{Option, none, some}
 use mathlib.Core.List.{List, [], _∷_, _++_, map}
 use Rattle.board.specs.declared.Net.{Net}
-use Rattle.board.specs.Length.{worth}
+use Rattle.board.specs.Weight.{weight}
 use Rattle.board.specs.Job.{Job}
 use Rattle.board.specs.Placement.{Placement}
 use Rattle.board.specs.Rival.{Rival}
@@ -18,14 +18,14 @@ pub record RivalWires (job : Job) (earlier : List ℕ) (t : ℕ) (ws : List Wire
   pub rival : Rival job earlier t places
   pub drawn : ws ≡ map (wireOf (job .board) t) places
 
--- what a net is worth, 0 if there is none
-unfoldable pub worthBy : Job → Option Net → ℕ
-worthBy job none = 0
-worthBy job (some n) = worth (job .board) n
+-- the weight of a net, 0 if there is none
+unfoldable pub weightBy : Job → Option Net → ℕ
+weightBy none = 0
+weightBy (some n) = weight n
 
--- what the net with number k is worth, 0 if no net has it
-unfoldable pub worthOf : Job → ℕ → ℕ
-worthOf job k = worthBy job (netNumbered job k)
+-- the weight of the net with number k, 0 if no net has it
+unfoldable pub weightOf : Job → ℕ → ℕ
+weightOf job k = weightBy (netNumbered job k)
 
 -- f added up over numbers
 unfoldable pub sumOver : (ℕ → ℕ) → List ℕ → ℕ
@@ -47,7 +47,7 @@ lineNumbers l = trackNumbers (l .tracks) ++ l .loose
 
 -- the sum of wires: each counts by its number
 unfoldable pub wiresSum : Job → List Wire → ℕ
-wiresSum job ws = sumOver (worthOf job) (wireNumbers ws)
+wiresSum job ws = sumOver (weightOf job) (wireNumbers ws)
 
 -- the sum of the numbers of the track lines
 unfoldable pub printedSum : List DrawnTrack → ℕ

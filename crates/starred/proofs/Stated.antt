@@ -17,8 +17,8 @@ use Rattle.routing.proofs.WorkedLayout.{computedText, worked-text}
 use Rattle.starred.specs.Boards.{AsStated, starredBoards}
 
 -- the job of the net from row 10 to row 14, on a board with so many rows and one track
-abbrev triedJob : ℕ → ℕ → ℕ → Job
-triedJob rows least most = record { board = triedBoard rows; nets = triedNet least most ∷ []; blocks = [] }
+abbrev triedJob : ℕ → ℕ → ℕ → ℕ → Job
+triedJob rows least most heavy = record { board = triedBoard rows; nets = triedNet least most heavy ∷ []; blocks = [] }
 
 -- a board without nets: all sums 0
 no-nets : routeText (emptyJob (boardOf 21 2)) ≡ bytes "(layout\n (track 1 0)\n (track 2 0)\n)\n"
@@ -31,17 +31,17 @@ unfolding readAs
 all-stated = (
   record { job = workedJob; read = worked-board; written-is = worked-text },
   (
-    record { job = triedJob 21 23 23; net = triedNet 23 23; read = refl; only = refl; tried = rows-21; so-many = refl },
+    record { job = triedJob 21 23 23 12; net = triedNet 23 23 12; read = refl; only = refl; tried = rows-21; so-many = refl },
     (
-      record { job = triedJob 20 23 23; net = triedNet 23 23; read = refl; only = refl; tried = rows-20; so-many = refl },
+      record { job = triedJob 20 23 23 12; net = triedNet 23 23 12; read = refl; only = refl; tried = rows-20; so-many = refl },
       (
-        record { job = triedJob 14 23 23; net = triedNet 23 23; read = refl; only = refl; tried = rows-14; so-many = refl },
+        record { job = triedJob 14 23 23 12; net = triedNet 23 23 12; read = refl; only = refl; tried = rows-14; so-many = refl },
         (
-          record { job = triedJob 21 22 23; net = triedNet 22 23; read = refl; only = refl; tried = min-22; so-many = refl },
+          record { job = triedJob 21 22 23 12; net = triedNet 22 23 12; read = refl; only = refl; tried = min-22; so-many = refl },
           (
             record { outcome = NoLength 4; read = refl; number-is = refl; line-is = refl },
             (
-              record { job = triedJob 21 8 9; net = triedNet 8 9; read = refl; only = refl; tried = min-8; so-many = refl },
+              record { job = triedJob 21 8 9 5; net = triedNet 8 9 5; read = refl; only = refl; tried = min-8; so-many = refl },
               (
                 record { outcome = NoLength 4; read = refl; number-is = refl; line-is = refl },
                 (

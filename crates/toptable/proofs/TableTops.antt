@@ -13,7 +13,8 @@ use Rattle.lists.proofs.Cases.{by-test}
 use Rattle.board.specs.declared.Board.{Board}
 use Rattle.board.specs.declared.Net.{Net}
 use Rattle.board.specs.declared.Shape.{Shape}
-use Rattle.board.specs.Length.{shortest, needed, worth}
+use Rattle.board.specs.Length.{shortest, needed}
+use Rattle.board.specs.Weight.{weight}
 use Rattle.board.specs.Placement.{firstTop, lastTop}
 use Rattle.board.specs.Stored.{noNet}
 use Rattle.candidates.specs.declared.NetTops.{NetTops}
@@ -22,7 +23,7 @@ use Rattle.toptable.specs.TopsTable.{withTops, withAllTops, topsIn}
 
 -- the four numbers of net i
 abbrev pub fourPut : List ℕ → ℕ → NetTops → List ℕ
-fourPut table i tops = set (set (set (set table (i + 512) (tops .need)) (i + 1024) (tops .worth)) (i + 1536) (tops .first .0)) (i + 2048) (tops .last .0)
+fourPut table i tops = set (set (set (set table (i + 512) (tops .need)) (i + 1024) (tops .weight)) (i + 1536) (tops .first .0)) (i + 2048) (tops .last .0)
 
 -- of a net that is not eligible nothing is put
 pub tops-kept : (board : Board) (n : Net) (i : ℕ) (table : List ℕ) → getD table i 0 ≡ 0 → table ≡ withTops board n i table
@@ -33,12 +34,12 @@ tops-kept board n i table e = rw (eq-eqb (getD table i 0) 0 e) refl
 pub tops-put : (board : Board) (n : Net) (i : ℕ) (table : List ℕ) (tops : NetTops) → (getD table i 0 ≡ 0 → ⊥) → TopsOf board n tops
     → fourPut table i tops ≡ withTops board n i table
 unfolding withTops
-tops-put board n i table tops ne is = rw (ne-eqb (getD table i 0) 0 ne, is .need, is .worth-is, is .first, is .last) refl
+tops-put board n i table tops ne is = rw (ne-eqb (getD table i 0) 0 ne, is .need, is .weight-is, is .first, is .last) refl
 
 -- the places of the four numbers are in the table
 module _ (table : List ℕ) (i : ℕ) (h : i < 512) (r : 2560 ≤ length table) (u v w : ℕ) where
-  pub worth-place : i + 1024 < length (set table (i + 512) u)
-  worth-place = rw (length-set table (i + 512) u) (omega arith)
+  pub weight-place : i + 1024 < length (set table (i + 512) u)
+  weight-place = rw (length-set table (i + 512) u) (omega arith)
 
   pub first-place : i + 1536 < length (set (set table (i + 512) u) (i + 1024) v)
   first-place = rw (length-set (set table (i + 512) u) (i + 1024) v, length-set table (i + 512) u) (omega arith)
@@ -54,7 +55,7 @@ module _ (board : Board) (n : Net) (i : ℕ) (table : List ℕ) where
   t1 = set table (i + 512) (needed board n)
 
   abbrev t2 : List ℕ
-  t2 = set t1 (i + 1024) (worth board n)
+  t2 = set t1 (i + 1024) (weight n)
 
   abbrev t3 : List ℕ
   t3 = set t2 (i + 1536) (firstTop n s)
@@ -64,25 +65,25 @@ module _ (board : Board) (n : Net) (i : ℕ) (table : List ℕ) where
   unfolding withTops
   tops-length =
       by-test (eqb (getD table i 0) 0) (λ e. rw e refl)
-      (λ e. rw e (length-set t3 (i + 2048) (lastTop board n s) ∙ length-set t2 (i + 1536) (firstTop n s) ∙ length-set t1 (i + 1024) (worth board n) ∙ length-set table (i + 512) (needed board n)))
+      (λ e. rw e (length-set t3 (i + 2048) (lastTop board n s) ∙ length-set t2 (i + 1536) (firstTop n s) ∙ length-set t1 (i + 1024) (weight n) ∙ length-set table (i + 512) (needed board n)))
 
   -- no other number changes
   tops-other : (j : ℕ) → (j ≡ i + 512 → ⊥) → (j ≡ i + 1024 → ⊥) → (j ≡ i + 1536 → ⊥) → (j ≡ i + 2048 → ⊥) → getD (withTops board n i table) j 0 ≡ getD table j 0
   unfolding withTops
   tops-other j a b c d =
       by-test (eqb (getD table i 0) 0) (λ e. rw e refl)
-      (λ e. rw e (getD-set-other t3 (i + 2048) j (lastTop board n s) 0 d ∙ getD-set-other t2 (i + 1536) j (firstTop n s) 0 c ∙ getD-set-other t1 (i + 1024) j (worth board n) 0 b ∙ getD-set-other table (i + 512) j (needed board n) 0 a))
+      (λ e. rw e (getD-set-other t3 (i + 2048) j (lastTop board n s) 0 d ∙ getD-set-other t2 (i + 1536) j (firstTop n s) 0 c ∙ getD-set-other t1 (i + 1024) j (weight n) 0 b ∙ getD-set-other table (i + 512) j (needed board n) 0 a))
 
   tops-here : 2560 ≤ length table → i < 512 → (getD table i 0 ≡ 0 → ⊥) → TopsOf board n (topsIn (withTops board n i table) i)
   unfolding withTops
   tops-here room h ne =
       let l1 : length t1 ≡ length table = length-set table (i + 512) (needed board n) in
-      let l2 : length t2 ≡ length t1 = length-set t1 (i + 1024) (worth board n) in
+      let l2 : length t2 ≡ length t1 = length-set t1 (i + 1024) (weight n) in
       let l3 : length t3 ≡ length t2 = length-set t2 (i + 1536) (firstTop n s) in
       let e = ne-eqb (getD table i 0) 0 ne in
       record {
-        need = rw e (getD-set-other t3 (i + 2048) (i + 512) (lastTop board n s) 0 (λ z. absurd (omega arith)) ∙ getD-set-other t2 (i + 1536) (i + 512) (firstTop n s) 0 (λ z. absurd (omega arith)) ∙ getD-set-other t1 (i + 1024) (i + 512) (worth board n) 0 (λ z. absurd (omega arith)) ∙ getD-set-same table (i + 512) (needed board n) 0 (omega arith));
-        worth-is = rw e (getD-set-other t3 (i + 2048) (i + 1024) (lastTop board n s) 0 (λ z. absurd (omega arith)) ∙ getD-set-other t2 (i + 1536) (i + 1024) (firstTop n s) 0 (λ z. absurd (omega arith)) ∙ getD-set-same t1 (i + 1024) (worth board n) 0 (omega (arith, l1)));
+        need = rw e (getD-set-other t3 (i + 2048) (i + 512) (lastTop board n s) 0 (λ z. absurd (omega arith)) ∙ getD-set-other t2 (i + 1536) (i + 512) (firstTop n s) 0 (λ z. absurd (omega arith)) ∙ getD-set-other t1 (i + 1024) (i + 512) (weight n) 0 (λ z. absurd (omega arith)) ∙ getD-set-same table (i + 512) (needed board n) 0 (omega arith));
+        weight-is = rw e (getD-set-other t3 (i + 2048) (i + 1024) (lastTop board n s) 0 (λ z. absurd (omega arith)) ∙ getD-set-other t2 (i + 1536) (i + 1024) (firstTop n s) 0 (λ z. absurd (omega arith)) ∙ getD-set-same t1 (i + 1024) (weight n) 0 (omega (arith, l1)));
         first = rw e (getD-set-other t3 (i + 2048) (i + 1536) (lastTop board n s) 0 (λ z. absurd (omega arith)) ∙ getD-set-same t2 (i + 1536) (firstTop n s) 0 (omega (arith, l1, l2)));
         last = rw e (getD-set-same t3 (i + 2048) (lastTop board n s) 0 (omega (arith, l1, l2, l3)));
       }
@@ -92,7 +93,7 @@ later-kept : (board : Board) (n : Net) (k : ℕ) (table : List ℕ) (i : ℕ) (m
 later-kept board n k table i m ne h l t =
     record {
       need = tops-other board n k table (i + 512) (λ z. ne (omega arith)) (λ z. absurd (omega arith)) (λ z. absurd (omega arith)) (λ z. absurd (omega arith)) ∙ t .need;
-      worth-is = tops-other board n k table (i + 1024) (λ z. absurd (omega arith)) (λ z. ne (omega arith)) (λ z. absurd (omega arith)) (λ z. absurd (omega arith)) ∙ t .worth-is;
+      weight-is = tops-other board n k table (i + 1024) (λ z. absurd (omega arith)) (λ z. ne (omega arith)) (λ z. absurd (omega arith)) (λ z. absurd (omega arith)) ∙ t .weight-is;
       first = tops-other board n k table (i + 1536) (λ z. absurd (omega arith)) (λ z. absurd (omega arith)) (λ z. ne (omega arith)) (λ z. absurd (omega arith)) ∙ t .first;
       last = tops-other board n k table (i + 2048) (λ z. absurd (omega arith)) (λ z. absurd (omega arith)) (λ z. absurd (omega arith)) (λ z. ne (omega arith)) ∙ t .last;
     }

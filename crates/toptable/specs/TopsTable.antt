@@ -1,6 +1,6 @@
 -- The nets lent as a list of records: what the choice needs of each eligible net, put into a table of numbers in five parts of 512. For
--- net i, number i tells whether it is eligible (0 if not); 512, 1,024, 1,536 and 2,048 places behind it stand its needed rows, what it is
--- worth, and its first and last top row.
+-- net i, number i tells whether it is eligible (0 if not); 512, 1,024, 1,536 and 2,048 places behind it stand its needed rows, its weight,
+-- and its first and last top row.
 use Prim.Native.Nat.{ℕ, zero, suc, _+_, _≤_, _<_}
 use mathlib.Core.Path.{_≡_}
 use mathlib.Core.Bool.{true, cond}
@@ -10,7 +10,8 @@ use lib.Dec.{eqb}
 use Rattle.board.specs.declared.Board.{Board}
 use Rattle.board.specs.declared.Net.{Net}
 use Rattle.board.specs.declared.StoredJob.{StoredJob}
-use Rattle.board.specs.Length.{shortest, needed, worth}
+use Rattle.board.specs.Length.{shortest, needed}
+use Rattle.board.specs.Weight.{weight}
 use Rattle.board.specs.Placement.{firstTop, lastTop}
 use Rattle.board.specs.Accepted.{BoardInRange, AcceptedNet}
 use Rattle.board.specs.Stored.{jobOf, noNet}
@@ -23,7 +24,7 @@ use Rattle.candidates.specs.Placed.{precedingOf, eligibleAt}
 unfoldable pub withTops : Board → Net → ℕ → List ℕ → List ℕ
 withTops board n i table =
     let s = shortest board n in
-    let put = set (set (set (set table (i + 512) (needed board n)) (i + 1024) (worth board n)) (i + 1536) (firstTop n s)) (i + 2048) (lastTop board n s) in
+    let put = set (set (set (set table (i + 512) (needed board n)) (i + 1024) (weight n)) (i + 1536) (firstTop n s)) (i + 2048) (lastTop board n s) in
     cond (eqb (getD table i 0) 0) table put
 
 -- the table with what the choice needs of the first k nets
@@ -43,7 +44,7 @@ abbrev pub topsIn : List ℕ → ℕ → NetTops
 topsIn table i =
     record {
       need = getD table (i + 512) 0;
-      worth = getD table (i + 1024) 0;
+      weight = getD table (i + 1024) 0;
       first = record { 0 = getD table (i + 1536) 0 };
       last = record { 0 = getD table (i + 2048) 0 };
     }

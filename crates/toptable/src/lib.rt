@@ -24,7 +24,7 @@ pub fn tops_of(board: Board, net: Net) -> NetTops
     let shape = board::shortest(board, net);
     NetTops {
         need: board::needed(board, net),
-        worth: board::worth(board, net),
+        weight: net.weight,
         first: board::first_top(net, shape),
         last: board::last_top(board, net, shape),
     }
@@ -44,7 +44,7 @@ fn eligible_nets(nnets: usize, before: &[usize; 512], placed: &[usize; 512]) -> 
     table
 }
 
-// What the choice needs of net i, put into the table if the net is eligible there: its needed rows, what it is worth, and its first and
+// What the choice needs of net i, put into the table if the net is eligible there: its needed rows, its weight, and its first and
 // last top row stand 512, 1,024, 1,536 and 2,048 places behind number i.
 fn put_tops(board: Board, net: Net, i: usize, table: &mut [usize])
     requires { ⌜ (BoardInRange board) × (AcceptedNet board net) × (i < 512) × (2560 ≤ length (now table)) ⌝ }
@@ -55,7 +55,7 @@ fn put_tops(board: Board, net: Net, i: usize, table: &mut [usize])
     }
     let tops = tops_of(board, net);
     table[i + 512] = tops.need;
-    table[i + 1024] = tops.worth;
+    table[i + 1024] = tops.weight;
     table[i + 1536] = tops.first.0;
     table[i + 2048] = tops.last.0;
 }
@@ -99,12 +99,12 @@ pub fn tops_in(table: &[usize; 2560], i: usize) -> NetTops
     ensures { λ r. ⌜ r ≡ topsIn (now (table .entry)) i ⌝ }
 {
     let need = table[i + 512];
-    let worth = table[i + 1024];
+    let weight = table[i + 1024];
     let first = table[i + 1536];
     let last = table[i + 2048];
     NetTops {
         need,
-        worth,
+        weight,
         first: Row(first),
         last: Row(last),
     }

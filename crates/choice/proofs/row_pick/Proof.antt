@@ -11,10 +11,10 @@ use Rattle.choice.proofs.row_pick.Statement.{statement}
 use Rattle.choice.proofs.row_pick.Tie as tie
 
 abbrev Inv-loop : tie.InvT-loop
-Inv-loop listed index net need worth first last flags best row j next p₀ k₀ p k = (k ≤ listed) × (p ≡ pickAmong (lent listed net need worth first last) flags best (row .0) index k)
+Inv-loop listed index net need weight first last flags best row j next p₀ k₀ p k = (k ≤ listed) × (p ≡ pickAmong (lent listed net need weight first last) flags best (row .0) index k)
 
 abbrev μ-loop : tie.MeasureT-loop
-μ-loop listed index net need worth first last flags best row j next p₀ k₀ p k = listed - k
+μ-loop listed index net need weight first last flags best row j next p₀ k₀ p k = listed - k
 
 loop-holds : tie.Need-loop-holds Inv-loop μ-loop
 unfolding pickAmong

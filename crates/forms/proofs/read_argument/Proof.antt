@@ -1,4 +1,4 @@
--- `forms::read_argument` meets its contract: a word that is a number, or something else. Assumes nothing.
+-- `forms::read_argument` meets its contract: a word that is a number, the closing bracket, or something else. Assumes nothing.
 use mathlib.Core.Path.{sym, ap, _∙_}
 use native.Mathlib.Omega.{arith}
 use denote.Ref.{now}
@@ -39,14 +39,14 @@ enum-known-v c = search needs
 enum-told : tie.Need-enum-told
 enum-told c = search needs
 
+enum-known-next : tie.Need-enum-known-next
+enum-known-next c = search needs
+
 enum-told-2 : tie.Need-enum-told-2
 enum-told-2 c = search needs
 
 enum-told-3 : tie.Need-enum-told-3
 enum-told-3 c = search needs
-
-enum-told-4 : tie.Need-enum-told-4
-enum-told-4 c = search needs
 
 returns : tie.Need-returns
 unfolding argumentAt argumentOf
@@ -64,15 +64,15 @@ returns-2 c =
 
 returns-3 : tie.Need-returns-3
 unfolding argumentAt argumentOf
-returns-3 c = ap (argumentOf _) (sym (c .enum-told2 .given .1) ∙ c .before .before .read-token .ensures)
+returns-3 c = ap (argumentOf _) (sym (c .before .next .given .1) ∙ c .before .before .before .read-token .ensures)
 
 returns-4 : tie.Need-returns-4
 unfolding argumentAt argumentOf
-returns-4 c = ap (argumentOf _) (sym (c .enum-told3 .given .1) ∙ c .before .before .read-token .ensures)
+returns-4 c = ap (argumentOf _) (sym (c .enum-told2 .given .1) ∙ c .before .before .read-token .ensures)
 
 returns-5 : tie.Need-returns-5
 unfolding argumentAt argumentOf
-returns-5 c = ap (argumentOf _) (sym (c .enum-told4 .given .1) ∙ c .before .before .read-token .ensures)
+returns-5 c = ap (argumentOf _) (sym (c .enum-told3 .given .1) ∙ c .before .before .read-token .ensures)
 
 pub read-argument-spec : {M : Type 1} → statement M
 read-argument-spec =
@@ -86,9 +86,9 @@ read-argument-spec =
     read-number-requires
     enum-known-v
     enum-told
+    enum-known-next
     enum-told-2
     enum-told-3
-    enum-told-4
     returns
     returns-2
     returns-3

@@ -15,10 +15,10 @@ use Rattle.housewriter.proofs.put_nets.Statement.{statement}
 use Rattle.housewriter.proofs.put_nets.Tie as tie
 
 abbrev Inv-loop : tie.InvT-loop
-Inv-loop out₀ at job nnets next₀ i₀ out next i = (i ≤ nnets) × Going at (netsOn (job .nets) nnets 0) (netsOn (job .nets) nnets i) out₀ out next
+Inv-loop out₀ at job board nnets next₀ i₀ out next i = (i ≤ nnets) × Going at (netsOn (job .board) (job .nets) nnets 0) (netsOn (job .board) (job .nets) nnets i) out₀ out next
 
 abbrev μ-loop : tie.MeasureT-loop
-μ-loop out₀ at job nnets next₀ i₀ out next i = nnets - i
+μ-loop out₀ at job board nnets next₀ i₀ out next i = nnets - i
 
 loop-holds : tie.Need-loop-holds Inv-loop μ-loop
 loop-holds c = (omega arith, going-start _ _ _)
@@ -35,8 +35,8 @@ put-net-requires c κs =
     let s = l .before .before in
     let job = s .args .t3 in
     let i = l .loop .i in
-    let e = nets-step (job .nets) (job .nnets) i (omega arith) (omega (arith, net-size job (s .good .1 .1 .0), s .pre .0 .nets-room)) in
-    going-room (ended (netLine (getD (job .nets) i noNet))) (netsOn (job .nets) (job .nnets) (i + 1)) (going-on e (l .loop .inv .1)) (s .pre .1)
+    let e = nets-step (job .board) (job .nets) (job .nnets) i (omega arith) (omega (arith, net-size job (s .good .1 .1 .0), s .pre .0 .nets-room)) in
+    going-room (ended (netLine (job .board) (getD (job .nets) i noNet))) (netsOn (job .board) (job .nets) (job .nnets) (i + 1)) (going-on e (l .loop .inv .1)) (s .pre .1)
 
 add-i : tie.Need-add-i Inv-loop μ-loop
 add-i c = search needs
@@ -50,15 +50,15 @@ loop-again c =
     let s = l .before .before in
     let job = s .args .t3 in
     let i = l .loop .i in
-    let e = nets-step (job .nets) (job .nnets) i (omega arith) (omega (arith, net-size job (s .good .1 .1 .0), s .pre .0 .nets-room)) in
-    (omega arith, going-more (ended (netLine (getD (job .nets) i noNet))) (netsOn (job .nets) (job .nnets) (i + 1)) (going-on e (l .loop .inv .1)) (s .pre .1) (c .before .before .put-net .ensures))
+    let e = nets-step (job .board) (job .nets) (job .nnets) i (omega arith) (omega (arith, net-size job (s .good .1 .1 .0), s .pre .0 .nets-room)) in
+    (omega arith, going-more (ended (netLine (job .board) (getD (job .nets) i noNet))) (netsOn (job .board) (job .nets) (job .nnets) (i + 1)) (going-on e (l .loop .inv .1)) (s .pre .1) (c .before .before .put-net .ensures))
 
 written : tie.Need-returns Inv-loop μ-loop
 written c =
     let l = c .before in
     let s = l .before .before in
     let job = s .args .t3 in
-    going-end (going-on (nets-last (job .nets) (job .nnets) (l .loop .i) (omega arith)) (l .loop .inv .1))
+    going-end (going-on (nets-last (job .board) (job .nets) (job .nnets) (l .loop .i) (omega arith)) (l .loop .inv .1))
 
 same-length : tie.Need-same-length Inv-loop μ-loop
 same-length c = kept-at (written c) (c .before .before .before .pre .1)

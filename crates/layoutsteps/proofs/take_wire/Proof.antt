@@ -3,14 +3,14 @@ use mathlib.Core.Path.{sym, ap, _∙_}
 use native.Mathlib.Omega.{arith}
 use borrow.Author.Tests.{not-true, not-false}
 use Rattle.board.specs.declared.Board.{Board}
-use Rattle.board.specs.Length.{worth}
-use Rattle.board.proofs.ShortestShape.{worth-range}
+use Rattle.board.specs.Weight.{weight}
+use Rattle.board.proofs.ShortestShape.{weight-range}
 use Rattle.layout.specs.Tree.{wire}
 use Rattle.drc.specs.Covers.{drawnOf}
 use Rattle.judging.proofs.Turns.{closes-off, wire-place}
 use Rattle.judging.proofs.Ranges.{closed-range, wire-range}
 use Rattle.judging.proofs.Steps.{wire-taken}
-use Rattle.layoutsteps.proofs.WireLines.{place-none, drawn-at, unknown-undrawn, unknown-worth, found-number, known-worth, known-drawn, below-512}
+use Rattle.layoutsteps.proofs.WireLines.{place-none, drawn-at, unknown-undrawn, unknown-weight, found-number, known-weight, known-drawn, below-512}
 use borrow.Author.Needs.{needs}
 use Rattle.layoutsteps.proofs.take_wire.Statement.{statement}
 use Rattle.layoutsteps.proofs.take_wire.Tie as tie
@@ -43,7 +43,7 @@ returns-2 c =
       λ job st w acc is f rd map k.
           wire-taken job (a .line) (a .m) (a .stands .now) st w _ _ _ (sym (wire-place job (a .board .tracks) (ap (λ (b : Board). b .tracks) is) (a .m) (a .stands .now) st w k) ∙ turn) k
           (unknown-undrawn job acc w (a .found) f (a .m .track .0) (c .before .if2 .taken))
-          (λ m h. c .add-undrawn .ensures .0 job m w (a .stands .now) (a .stands .now) (unknown-worth job acc w (a .found) f (c .before .if2 .taken)) h),
+          (λ m h. c .add-undrawn .ensures .0 job m w (a .stands .now) (a .stands .now) (unknown-weight job acc w (a .found) f (c .before .if2 .taken)) h),
       c .add-undrawn .ensures .1,
     )
 
@@ -56,17 +56,15 @@ drawn-place-requires c κs =
 enum-told : tie.Need-enum-told
 enum-told c = search needs
 
-worth-requires : tie.Need-worth-requires
-worth-requires c κs =
-    let s = c .before .before .before .before .before .before .before .before .before in
-    (s .pre .1 .1 .0 .board-range, s .pre .1 .1 .0 .net-range (c .before .before .before .before .if2 .left) .in-range)
+weight-requires : tie.Need-weight-requires
+weight-requires c κs = search needs
 
 add-undrawn-requires-2 : tie.Need-add-undrawn-requires-2
 add-undrawn-requires-2 c κs =
     let s = c .before .before .before .before .before .before .before .before .before .before in
     let f = s .pre .1 .1 .0 in
-    let w = worth-range (s .args .board) (s .args .found .net) (f .board-range) (f .net-range (c .before .before .before .before .before .if2 .left) .in-range) in
-    let e = c .worth .ensures in
+    let w = weight-range (s .args .board) (s .args .found .net) (f .board-range) (f .net-range (c .before .before .before .before .before .if2 .left)) in
+    let e = c .weight .ensures in
     (s .pre .0, (s .pre .1 .0, omega (arith, w, e)))
 
 enum-known-top : tie.Need-enum-known-top
@@ -94,7 +92,7 @@ returns-3 c =
       λ job st w acc is f rd map k.
           wire-taken job (a .line) (a .m) (a .stands .now) st w _ _ _ (sym (wire-place job (a .board .tracks) (ap (λ (b : Board). b .tracks) is) (a .m) (a .stands .now) st w k) ∙ turn) k
           (known-drawn job acc w (a .found) f (c .before .before .before .before .before .before .if2 .left) (a .m .track .0) ∙ ap (λ (b : Board). drawnOf b (a .m .track .0) (w .points) (a .found .net)) is ∙ place-none _ (sym (c .before .before .enum-told .given .1) ∙ c .before .before .before .before .drawn-place .ensures w rd (sym (found-number job acc w (a .found) f (c .before .before .before .before .before .before .if2 .left)))))
-          (λ m h. c .add-undrawn2 .ensures .0 job m w (a .stands .now) (a .stands .now) (known-worth job acc w (a .found) f (c .before .before .before .before .before .before .if2 .left) ∙ ap (λ (b : Board). worth b (a .found .net)) is ∙ sym (c .before .worth .ensures)) h),
+          (λ m h. c .add-undrawn2 .ensures .0 job m w (a .stands .now) (a .stands .now) (known-weight job acc w (a .found) f (c .before .before .before .before .before .before .if2 .left) ∙ ap (λ (b : Board). weight b (a .found .net)) is ∙ sym (c .before .weight .ensures)) h),
       c .add-undrawn2 .ensures .1,
     )
 
@@ -121,7 +119,7 @@ take-wire-spec =
     returns-2
     drawn-place-requires
     enum-told
-    worth-requires
+    weight-requires
     add-undrawn-requires-2
     enum-known-top
     add-drawn-requires

@@ -4,7 +4,7 @@ use native.Mathlib.Omega.{arith}
 use Prim.Native.Nat.{_-_}
 use lib.ListN.{length}
 use Rattle.jobfile.specs.Answers.{answerOf}
-use Rattle.reader.proofs.Reading.{LinesLeft, left-start, left-above, left-size, left-ahead, left-within, left-refused, left-head, left-room, left-rows, left-net, left-block-room, left-block, left-over}
+use Rattle.reader.proofs.Reading.{LinesLeft, left-start, left-above, left-size, left-ahead, left-within, left-refused, left-head, left-room, left-given, left-rows, left-net, left-block-room, left-block, left-over}
 use borrow.Author.Needs.{needs}
 use Rattle.reader.proofs.read_lines.Statement.{statement}
 use Rattle.reader.proofs.read_lines.Tie as tie
@@ -65,26 +65,29 @@ returns-2 c =
 entry-of-requires : tie.Need-entry-of-requires Inv-loop μ-loop
 entry-of-requires c κs = search needs
 
-enum-known-net : tie.Need-enum-known-net Inv-loop μ-loop
-enum-known-net c = search needs
+enum-known-given : tie.Need-enum-known-given Inv-loop μ-loop
+enum-known-given c = search needs
+
+with-weight-requires : tie.Need-with-weight-requires Inv-loop μ-loop
+with-weight-requires c κs = left-given _ _ _ _ (c .before .before .before .before .before .before .before .before .before .before .before .before .loop .inv) _ _ (sym (c .before .before .before .before .before .before .before .before .form .given .1) ∙ c .before .before .before .before .before .before .before .before .before .before .next .ensures) _ (c .before .before .before .before .before .before .form-outcome .ensures _ (left-above _ _ _ _ (c .before .before .before .before .before .before .before .before .before .before .before .before .loop .inv))) (sym (c .before .before .before .before .before .number-of .ensures) ∙ c .before .before .before .before .if1 .left) _ _ (sym (c .before .given .given .1) ∙ c .before .before .before .entry-of .ensures)
 
 mul-net : tie.Need-mul-net Inv-loop μ-loop
-mul-net c = omega (arith, left-room _ _ _ _ (c .before .before .before .before .before .before .before .before .before .before .before .before .loop .inv) _ _ (sym (c .before .before .before .before .before .before .before .before .form .given .1) ∙ c .before .before .before .before .before .before .before .before .before .before .next .ensures) _ (c .before .before .before .before .before .before .form-outcome .ensures _ (left-above _ _ _ _ (c .before .before .before .before .before .before .before .before .before .before .before .before .loop .inv))) (sym (c .before .before .before .before .before .number-of .ensures) ∙ c .before .before .before .before .if1 .left) _ (sym (c .before .net .given .1) ∙ c .before .before .before .entry-of .ensures))
+mul-net c = omega (arith, left-room _ _ _ _ (c .before .before .before .before .before .before .before .before .before .before .before .before .before .loop .inv) _ _ (sym (c .before .before .before .before .before .before .before .before .before .form .given .1) ∙ c .before .before .before .before .before .before .before .before .before .before .before .next .ensures) _ (c .before .before .before .before .before .before .before .form-outcome .ensures _ (left-above _ _ _ _ (c .before .before .before .before .before .before .before .before .before .before .before .before .before .loop .inv))) (sym (c .before .before .before .before .before .before .number-of .ensures) ∙ c .before .before .before .before .before .if1 .left) _ _ (sym (c .before .before .given .given .1) ∙ c .before .before .before .before .entry-of .ensures))
 
 element-set-from-net : tie.Need-element-set-from-net Inv-loop μ-loop
-element-set-from-net c = left-room _ _ _ _ (c .before .before .before .before .before .before .before .before .before .before .before .before .loop .inv) _ _ (sym (c .before .before .before .before .before .before .before .before .form .given .1) ∙ c .before .before .before .before .before .before .before .before .before .before .next .ensures) _ (c .before .before .before .before .before .before .form-outcome .ensures _ (left-above _ _ _ _ (c .before .before .before .before .before .before .before .before .before .before .before .before .loop .inv))) (sym (c .before .before .before .before .before .number-of .ensures) ∙ c .before .before .before .before .if1 .left) _ (sym (c .before .net .given .1) ∙ c .before .before .before .entry-of .ensures)
+element-set-from-net c = left-room _ _ _ _ (c .before .before .before .before .before .before .before .before .before .before .before .before .before .loop .inv) _ _ (sym (c .before .before .before .before .before .before .before .before .before .form .given .1) ∙ c .before .before .before .before .before .before .before .before .before .before .before .next .ensures) _ (c .before .before .before .before .before .before .before .form-outcome .ensures _ (left-above _ _ _ _ (c .before .before .before .before .before .before .before .before .before .before .before .before .before .loop .inv))) (sym (c .before .before .before .before .before .before .number-of .ensures) ∙ c .before .before .before .before .before .if1 .left) _ _ (sym (c .before .before .given .given .1) ∙ c .before .before .before .before .entry-of .ensures)
 
 net-after-requires : tie.Need-net-after-requires Inv-loop μ-loop
 net-after-requires c κs = (
-  left-room _ _ _ _ (c .before .before .before .before .before .before .before .before .before .before .before .before .loop .inv) _ _ (sym (c .before .before .before .before .before .before .before .before .form .given .1) ∙ c .before .before .before .before .before .before .before .before .before .before .next .ensures) _ (c .before .before .before .before .before .before .form-outcome .ensures _ (left-above _ _ _ _ (c .before .before .before .before .before .before .before .before .before .before .before .before .loop .inv))) (sym (c .before .before .before .before .before .number-of .ensures) ∙ c .before .before .before .before .if1 .left) _ (sym (c .before .net .given .1) ∙ c .before .before .before .entry-of .ensures),
-  left-rows _ _ _ _ (c .before .before .before .before .before .before .before .before .before .before .before .before .loop .inv) _ _ (sym (c .before .before .before .before .before .before .before .before .form .given .1) ∙ c .before .before .before .before .before .before .before .before .before .before .next .ensures) _ (c .before .before .before .before .before .before .form-outcome .ensures _ (left-above _ _ _ _ (c .before .before .before .before .before .before .before .before .before .before .before .before .loop .inv))) (sym (c .before .before .before .before .before .number-of .ensures) ∙ c .before .before .before .before .if1 .left) _ (sym (c .before .net .given .1) ∙ c .before .before .before .entry-of .ensures),
+  left-room _ _ _ _ (c .before .before .before .before .before .before .before .before .before .before .before .before .before .loop .inv) _ _ (sym (c .before .before .before .before .before .before .before .before .before .form .given .1) ∙ c .before .before .before .before .before .before .before .before .before .before .before .next .ensures) _ (c .before .before .before .before .before .before .before .form-outcome .ensures _ (left-above _ _ _ _ (c .before .before .before .before .before .before .before .before .before .before .before .before .before .loop .inv))) (sym (c .before .before .before .before .before .before .number-of .ensures) ∙ c .before .before .before .before .before .if1 .left) _ _ (sym (c .before .before .given .given .1) ∙ c .before .before .before .before .entry-of .ensures),
+  rw (c .with-weight .ensures) (left-rows _ _ _ _ (c .before .before .before .before .before .before .before .before .before .before .before .before .before .loop .inv) _ _ (sym (c .before .before .before .before .before .before .before .before .before .form .given .1) ∙ c .before .before .before .before .before .before .before .before .before .before .before .next .ensures) _ (c .before .before .before .before .before .before .before .form-outcome .ensures _ (left-above _ _ _ _ (c .before .before .before .before .before .before .before .before .before .before .before .before .before .loop .inv))) (sym (c .before .before .before .before .before .before .number-of .ensures) ∙ c .before .before .before .before .before .if1 .left) _ _ (sym (c .before .before .given .given .1) ∙ c .before .before .before .before .entry-of .ensures)),
 )
 
 loop-less : tie.Need-loop-less Inv-loop μ-loop
-loop-less c = omega (arith, left-ahead _ _ _ _ (c .before .before .before .before .before .before .before .before .before .before .before .before .before .loop .inv) _ _ (sym (c .before .before .before .before .before .before .before .before .before .form .given .1) ∙ c .before .before .before .before .before .before .before .before .before .before .before .next .ensures), left-within _ _ _ _ (c .before .before .before .before .before .before .before .before .before .before .before .before .before .loop .inv) _ _ (sym (c .before .before .before .before .before .before .before .before .before .form .given .1) ∙ c .before .before .before .before .before .before .before .before .before .before .before .next .ensures))
+loop-less c = omega (arith, left-ahead _ _ _ _ (c .before .before .before .before .before .before .before .before .before .before .before .before .before .before .loop .inv) _ _ (sym (c .before .before .before .before .before .before .before .before .before .before .form .given .1) ∙ c .before .before .before .before .before .before .before .before .before .before .before .before .next .ensures), left-within _ _ _ _ (c .before .before .before .before .before .before .before .before .before .before .before .before .before .before .loop .inv) _ _ (sym (c .before .before .before .before .before .before .before .before .before .before .form .given .1) ∙ c .before .before .before .before .before .before .before .before .before .before .before .before .next .ensures))
 
 loop-again : tie.Need-loop-again Inv-loop μ-loop
-loop-again c = left-net _ _ _ _ (c .before .before .before .before .before .before .before .before .before .before .before .before .before .loop .inv) _ _ (sym (c .before .before .before .before .before .before .before .before .before .form .given .1) ∙ c .before .before .before .before .before .before .before .before .before .before .before .next .ensures) _ (c .before .before .before .before .before .before .before .form-outcome .ensures _ (left-above _ _ _ _ (c .before .before .before .before .before .before .before .before .before .before .before .before .before .loop .inv))) (sym (c .before .before .before .before .before .before .number-of .ensures) ∙ c .before .before .before .before .before .if1 .left) _ (sym (c .before .before .net .given .1) ∙ c .before .before .before .before .entry-of .ensures) _ _ (c .net-after .ensures) refl refl
+loop-again c = left-net _ _ _ _ (c .before .before .before .before .before .before .before .before .before .before .before .before .before .before .loop .inv) _ _ (sym (c .before .before .before .before .before .before .before .before .before .before .form .given .1) ∙ c .before .before .before .before .before .before .before .before .before .before .before .before .next .ensures) _ (c .before .before .before .before .before .before .before .before .form-outcome .ensures _ (left-above _ _ _ _ (c .before .before .before .before .before .before .before .before .before .before .before .before .before .before .loop .inv))) (sym (c .before .before .before .before .before .before .before .number-of .ensures) ∙ c .before .before .before .before .before .before .if1 .left) _ _ (sym (c .before .before .before .given .given .1) ∙ c .before .before .before .before .before .entry-of .ensures) _ _ (rw (← c .before .with-weight .ensures) (c .net-after .ensures)) (rw (← c .before .with-weight .ensures) refl) refl
 
 enum-known-block : tie.Need-enum-known-block Inv-loop μ-loop
 enum-known-block c = search needs
@@ -137,7 +140,8 @@ read-lines-spec =
     refusal-requires
     returns-2
     entry-of-requires
-    enum-known-net
+    enum-known-given
+    with-weight-requires
     mul-net
     element-set-from-net
     net-after-requires

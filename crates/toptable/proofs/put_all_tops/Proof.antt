@@ -1,5 +1,5 @@
 -- `toptable::put_all_tops` meets its contract: a walk of its MIR, by hand, with a loop. The invariant at i: the table has what the choice needs of the first i nets. Each turn looks into the lent slice of nets, copies record i, lends the table again and calls `put_tops` on both.
--- All that the proof knows of `put_tops` is that it meets its contract. The record's size, 40 bytes, stands in the walk. Assumes nothing.
+-- All that the proof knows of `put_tops` is that it meets its contract. The record's size, 48 bytes, stands in the walk. Assumes nothing.
 use mathlib.Core.Path.{_≡_, refl, sym, ap, subst, _∙_}
 use mathlib.Core.Bool.{Bool}
 use mathlib.Core.Logic.{_⊎_, inl, inr, ⊎-elim}
@@ -225,14 +225,14 @@ module _ {M : Type 1} (𝓤 : URA M) (H : Heap 𝓤) (A : Atoms 𝓤) (W : Given
       unfolding afterTurn
       goes-on i l =
           let gi : i .0 < 2 ^ 64 = omega (arith, gn .0) in
-          let gm : i .0 * 40 < 2 ^ 64 = omega (arith, gn .1) in
+          let gm : i .0 * 48 < 2 ^ 64 = omega (arith, gn .1) in
           let gs : i .0 + 1 < 2 ^ 64 = omega (arith, gn .0) in
           assigns ! (of-opd ! (load ! (from ! (fld ! refl (stop !))) (look-in ! 20 (sub ! 1 refl (whole !))))) (from ! (stop !)) (init ! 12 refl (tt, record { fits = gn .0 })) $
           assigns ! (bin ! (load ! (from ! (stop !)) (look ! 14 refl)) (load ! (from ! (stop !)) (look ! 12 refl)) tt) (from ! (stop !)) (init ! 10 refl (tt, tt)) $
           rewrite ! 10 (λ (z : Bool). ‵ (fat fullShare tyBool l₆ 0 (vbool z))) (lt-ltb (i .0) n l) refl $ stays ! (load ! (from ! (stop !)) (look ! 10 refl)) $
           assigns ! (bin ! (load ! (from ! (stop !)) (look ! 14 refl)) (lit ! tt) (record { fits = gm })) (from ! (stop !)) (store ! 12 refl (tt, record { fits = gm })) $
           assigns ! (bin ! (load ! (from ! (fld ! refl (stop !))) (look-in ! 20 (sub ! 0 refl (whole !)))) (load ! (from ! (stop !)) (look ! 12 refl)) tt) (from ! (stop !)) (init ! 6 refl (tt, tt)) $
-          rewrite ! 6 (λ (p : ℕ). ‵ (fat fullShare tyPtr l₈ 0 (vptr b p))) (sym (place-is 40 o (i .0))) refl $
+          rewrite ! 6 (λ (p : ℕ). ‵ (fat fullShare tyPtr l₈ 0 (vptr b p))) (sym (place-is 48 o (i .0))) refl $
           -- record i is copied out of the slice
           move ! (24 ∷ []) $ fsplit ! $ move ! (1 ∷ []) $ fsplit ! $ move ! (1 ∷ 27 ∷ []) $
           looks-slice ! tt R (Is R) (shows 𝓤 H A R) (LL.vals T.the-type T′.the-laws) (LL.tells T.the-type T′.the-laws) (LL.copy T.the-type T′.the-copy 𝓤 H A W) ys b o (λ q′.

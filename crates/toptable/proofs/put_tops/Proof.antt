@@ -1,5 +1,5 @@
 -- `toptable::put_tops` meets its contract: an eligible net's four numbers are put, of another nothing. Assumes nothing.
-use Rattle.toptable.proofs.TableTops.{tops-kept, tops-put, worth-place, first-place, last-place}
+use Rattle.toptable.proofs.TableTops.{tops-kept, tops-put, weight-place, first-place, last-place}
 use borrow.Author.Needs.{needs}
 use Rattle.toptable.proofs.put_tops.Statement.{statement}
 use Rattle.toptable.proofs.put_tops.Tie as tie
@@ -36,7 +36,7 @@ slice-write-table-2 c =
     let s = c .before .before .before .before in
     let a = s .args in
     let t = c .tops-of .result in
-    worth-place (a .table .now) (a .i) (s .pre .2) (s .pre .3) (t .need) (t .worth) (t .first .0)
+    weight-place (a .table .now) (a .i) (s .pre .2) (s .pre .3) (t .need) (t .weight) (t .first .0)
 
 add-table-3 : tie.Need-add-table-3
 add-table-3 c = search needs
@@ -49,7 +49,7 @@ slice-write-table-3 c =
     let s = c .before .before .before .before in
     let a = s .args in
     let t = c .tops-of .result in
-    first-place (a .table .now) (a .i) (s .pre .2) (s .pre .3) (t .need) (t .worth) (t .first .0)
+    first-place (a .table .now) (a .i) (s .pre .2) (s .pre .3) (t .need) (t .weight) (t .first .0)
 
 add-table-4 : tie.Need-add-table-4
 add-table-4 c = search needs
@@ -62,7 +62,7 @@ slice-write-table-4 c =
     let s = c .before .before .before .before in
     let a = s .args in
     let t = c .tops-of .result in
-    last-place (a .table .now) (a .i) (s .pre .2) (s .pre .3) (t .need) (t .worth) (t .first .0)
+    last-place (a .table .now) (a .i) (s .pre .2) (s .pre .3) (t .need) (t .weight) (t .first .0)
 
 same-length : tie.Need-same-length
 same-length c = search needs

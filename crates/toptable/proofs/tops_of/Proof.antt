@@ -12,8 +12,8 @@ shortest-requires c κs = search needs
 needed-requires : tie.Need-needed-requires
 needed-requires c κs = search needs
 
-worth-requires : tie.Need-worth-requires
-worth-requires c κs = search needs
+weight-requires : tie.Need-weight-requires
+weight-requires c κs = search needs
 
 first-top-requires : tie.Need-first-top-requires
 first-top-requires c κs = search needs
@@ -30,7 +30,7 @@ returns c =
     let e = c .before .before .before .before .shortest .ensures in
     record {
       need = c .before .before .before .needed .ensures;
-      worth-is = c .before .before .worth .ensures;
+      weight-is = c .before .before .weight .ensures;
       first = c .before .first-top .ensures ∙ ap (λ s. firstTop (a .net) s) e;
       last = c .last-top .ensures ∙ ap (λ s. lastTop (a .board) (a .net) s) e;
     }
@@ -41,7 +41,7 @@ tops-of-spec =
     (tie.spec
     shortest-requires
     needed-requires
-    worth-requires
+    weight-requires
     first-top-requires
     last-top-requires
     returns)

@@ -4,8 +4,8 @@ use mathlib.Core.Path.{refl, sym, ap, _∙_}
 use mathlib.Core.Bool.{Bool}
 use native.Mathlib.Omega.{arith}
 use Rattle.board.specs.declared.Board.{Board}
-use Rattle.board.specs.Length.{worth}
-use Rattle.board.proofs.ShortestShape.{worth-range}
+use Rattle.board.specs.Weight.{weight}
+use Rattle.board.proofs.ShortestShape.{weight-range}
 use Rattle.judging.specs.Values.{isNextAt, firstBreach}
 use Rattle.judging.proofs.ValueTests.{fits-covered}
 use Rattle.judging.proofs.Ranges.{kept-range}
@@ -40,15 +40,15 @@ add-lowest c =
 sub-lowest : tie.Need-sub-lowest
 sub-lowest c = search needs
 
-worth-requires : tie.Need-worth-requires
-worth-requires c κs = search needs
+weight-requires : tie.Need-weight-requires
+weight-requires c κs = search needs
 
 add-sum : tie.Need-add-sum
 add-sum c =
     let s = c .before .before .before .before .before .before .before .before in
     let fits = s .pre .1 .1 in
-    let w = worth-range (s .args .board) (s .args .found .net) (fits .board-range) (fits .net-range .in-range) in
-    let e = c .before .worth .ensures in
+    let w = weight-range (s .args .board) (s .args .found .net) (fits .board-range) (fits .net-range) in
+    let e = c .before .weight .ensures in
     let r = s .pre .1 .0 .sum-range in
     let l = s .pre .0 in
     let f = fits-covered _ _ _ _ fits in
@@ -59,16 +59,16 @@ returns c =
     let s = c .before .before .before .before .before .before .before .before .before in
     let a = s .args in
     let fits = s .pre .1 .1 in
-    let w = worth-range (a .board) (a .found .net) (fits .board-range) (fits .net-range .in-range) in (
+    let w = weight-range (a .board) (a .found .net) (fits .board-range) (fits .net-range) in (
       λ job m v acc is found numbered blocks begun h.
           drawn-kept job (a .line) (s .pre .0) m v (a .m) acc (a .found) found numbered (a .words .now) (a .stands .now) blocks begun (a .top .0) (a .shape) _ _ _
-          (c .before .before .worth .ensures ∙ ap (λ (b : Board). worth b (a .found .net)) (sym is))
+          (c .before .before .weight .ensures ∙ ap (λ (b : Board). weight b (a .found .net)) (sym is))
           (ap (λ (rows : ℕ). a .top .0 + rows - 1) (c .before .before .before .before .covered .ensures))
           (c .before .before .before .before .before .first-breach .ensures ∙
           ap (λ (passed : Bool). firstBreach (a .m .breach) passed (a .line))
           (c .before .before .before .before .before .before .may-stand .ensures ∙ ap (λ (b : Board). isNextAt b (a .words .now) (a .stands .now) (a .found) (a .m) (a .top .0) (a .shape)) (sym is)))
           h,
-      kept-range (a .line) _ (a .m) (s .pre .0 .0) (s .pre .1 .0) refl (omega (arith, w, c .before .before .worth .ensures)),
+      kept-range (a .line) _ (a .m) (s .pre .0 .0) (s .pre .1 .0) refl (omega (arith, w, c .before .before .weight .ensures)),
     )
 
 pub add-drawn-spec : {M : Type 1} → statement M
@@ -82,6 +82,6 @@ add-drawn-spec =
     covered-requires
     add-lowest
     sub-lowest
-    worth-requires
+    weight-requires
     add-sum
     returns)

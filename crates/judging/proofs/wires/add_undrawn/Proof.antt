@@ -18,7 +18,7 @@ returns c =
     let s = c .before .before .before .before in
     let a = s .args in
     rw (c .before .before .before .first-breach .ensures) (
-      λ job m w before after v h. undrawn-added job (a .line) (s .pre .0) m w (a .m) before after (a .worth) v h,
+      λ job m w before after v h. undrawn-added job (a .line) (s .pre .0) m w (a .m) before after (a .weight) v h,
       kept-range (a .line) _ (a .m) (s .pre .0 .0) (s .pre .1 .0) refl (omega (arith, s .pre .1 .1)),
     )
 

@@ -3,10 +3,11 @@ use mathlib.Core.Path.{_≡_, sym, ap, _∙_}
 use mathlib.Core.Bool.{true}
 use borrow.Author.Tests.{not-true, not-false}
 use Rattle.board.specs.Stored.{jobOf}
+use Rattle.jobfile.specs.Read.{start}
 use Rattle.jobrules.specs.Rules.{outcomeOf}
 use Rattle.reader.specs.LinesAbove.{formStands}
 use Rattle.reader.proofs.Slots.{blocks-used}
-use Rattle.reader.proofs.Lines.{wrong-place, rows-place, tracks-place, net-place, block-place, net-filled, block-filled, blank-line, board-line, close-line, other-line, net-stage, nets-above}
+use Rattle.reader.proofs.Lines.{wrong-place, rows-place, tracks-place, net-below, block-place, net-filled, block-filled, blank-line, board-line, close-line, other-line, net-stage, nets-above}
 use borrow.Author.Needs.{needs}
 use Rattle.reader.proofs.lines_above.form_outcome.Statement.{statement}
 use Rattle.reader.proofs.lines_above.form_outcome.Tie as tie
@@ -43,7 +44,7 @@ enum-known-form-3 : tie.Need-enum-known-form-3
 enum-known-form-3 c = search needs
 
 net-outcome-requires : tie.Need-net-outcome-requires
-net-outcome-requires c κs = c .before .before .before .before .before .pre (net-stage _ _ _ _ _ _ _ (c .before .form3 .given .1) (in-place (c .before .before .before)))
+net-outcome-requires c κs = c .before .before .before .before .before .pre (net-stage _ _ _ _ _ _ _ _ (c .before .form3 .given .1) (in-place (c .before .before .before)))
 
 enum-known-form-4 : tie.Need-enum-known-form-4
 enum-known-form-4 c = search needs
@@ -71,9 +72,9 @@ returns-5 c job h = c .size-outcome2 .ensures _ ∙ ap outcomeOf (tracks-place _
 
 returns-6 : tie.Need-returns-6
 returns-6 c job h =
-    let f = net-filled 0 _ job _ (h .held) _ _ _ _ _ (c .before .before .form3 .given .1) (in-place (c .before .before .before .before)) in
-    c .net-outcome .ensures (jobOf job) (nets-above _ job h f)
-    ∙ ap outcomeOf (net-place _ _ job _ _ _ _ _ _ (c .before .before .form3 .given .1) (in-place (c .before .before .before .before)))
+    let f = net-filled 0 _ job _ (h .held) _ _ _ _ _ _ (c .before .before .form3 .given .1) (in-place (c .before .before .before .before)) in
+    c .net-outcome .ensures (jobOf job) start (nets-above _ job h f)
+    ∙ net-below _ _ job _ _ _ _ _ _ _ start h (c .before .before .form3 .given .1) (in-place (c .before .before .before .before))
 
 returns-7 : tie.Need-returns-7
 returns-7 c job h =

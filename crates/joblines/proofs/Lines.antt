@@ -2,15 +2,20 @@
 use Prim.Native.Nat.{ℕ}
 use mathlib.Core.Path.{_≡_, refl, sym, ap, _∙_}
 use mathlib.Core.List.{List, [], _∷_, _++_, append-assoc}
+use borrow.Author.Tests.{eq-eqb, ne-eqb}
 use Rattle.text.specs.Digits.{digits}
+use Rattle.text.specs.Written.{WrittenAt}
+use Rattle.text.proofs.Writing.{none-at}
 use Rattle.keywords.specs.Keywords.{netWord, wordOf}
 use Rattle.linewriter.specs.LineText.{headText}
 use Rattle.keywords.specs.declared.Vocabulary.the-variants.{Job}
+use Rattle.board.specs.declared.Board.{Board}
 use Rattle.board.specs.declared.Net.{Net}
 use Rattle.board.specs.declared.Block.{Block}
+use Rattle.board.specs.Length.{needed}
 use Rattle.jobfile.specs.declared.Optional.{Optional}
 use Rattle.jobfile.specs.declared.Optional.the-variants.{LeftOut, Written}
-use Rattle.house.specs.HouseText.{spacedThen, innerLine, optionalNumber, netNumbers, blockLine}
+use Rattle.house.specs.HouseText.{spacedThen, innerLine, weightWritten, optionalNumber, netNumbers, blockLine}
 use Rattle.joblines.specs.Lines.{ended, twoText, optionalText}
 
 -- numbers and what is behind them, with a byte more
@@ -44,6 +49,27 @@ optional-parts : (w : Optional) (rest : List ℕ) → spacedThen (optionalNumber
 unfolding spacedThen optionalText
 optional-parts LeftOut rest = refl
 optional-parts (Written x) rest = refl
+
+-- a number that is left out, and one that is written
+pub none-put : (w : Optional) (at : ℕ) (s : List ℕ) → w ≡ LeftOut → WrittenAt at (optionalText w) s s at
+unfolding optionalText
+none-put w at s e = rw e (none-at at s)
+
+pub some-text : (w : Optional) (x : ℕ) → w ≡ Written x → optionalText w ≡ 32 ∷ digits x
+unfolding optionalText
+some-text w x e = rw e
+
+pub some-put : (w : Optional) (x : ℕ) {at r : ℕ} {s t : List ℕ} → w ≡ Written x → WrittenAt at (32 ∷ digits x) s t r → WrittenAt at (optionalText w) s t r
+some-put w x e h = rw (some-text w x e) h
+
+-- the weight of a net: left out, or written
+pub weight-left-out : (board : Board) (n : Net) → n .weight ≡ needed board n → LeftOut ≡ weightWritten board n
+unfolding weightWritten
+weight-left-out board n e = rw (eq-eqb (n .weight) (needed board n) e)
+
+pub weight-put : (board : Board) (n : Net) → (n .weight ≡ needed board n → ⊥) → Written (n .weight) ≡ weightWritten board n
+unfolding weightWritten
+weight-put board n d = rw (ne-eqb (n .weight) (needed board n) d)
 
 pub net-parts : (n : Net) (w : Optional) → ended (innerLine netWord (netNumbers n w)) ≡
     headText Job 3 (n .number) ++ (twoText (n .left .0) (n .right .0) ++ (twoText (n .min) (n .max) ++ (optionalText w ++ (41 ∷ 10 ∷ []))))

@@ -104,7 +104,7 @@ unless-sound k false o x h l f = (h, l)
 
 net-sound : (k : ℕ) (n : Net) (w : Optional) (job : Job) → Sized job → LeadsOn k (addNet k n w job)
 unfolding addNet testNet
-net-sound k n job g =
+net-sound k n w job g =
     unless-sound k _ _ _ (λ z. omega arith) refl (λ e3.
     unless-sound k _ _ _ (λ z. omega arith) refl (λ e4.
     unless-sound k _ _ _ (λ z. omega arith) refl (λ e5.

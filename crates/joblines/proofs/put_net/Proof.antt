@@ -4,6 +4,9 @@ use borrow.Author.Needs.{needs}
 use Rattle.joblines.proofs.put_net.Statement.{statement}
 use Rattle.joblines.proofs.put_net.Tie as tie
 
+weight-written-requires : tie.Need-weight-written-requires
+weight-written-requires c κs = search needs
+
 sub-net-line : tie.Need-sub-net-line
 sub-net-line c = search needs
 
@@ -29,6 +32,7 @@ pub put-net-spec : {M : Type 1} → statement M
 put-net-spec =
     tie.close
     (tie.spec
+    weight-written-requires
     sub-net-line
     part-net-line-start
     part-net-line-end

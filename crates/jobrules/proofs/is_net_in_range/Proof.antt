@@ -47,12 +47,12 @@ returns-4 c =
 
 returns-5 : tie.Need-returns-5
 returns-5 c =
-    let a = c .before .before .before .before .before .before .before .before .before .args in
+    let a = c .before .before .before .before .before .before .before .before .before .before .args in
     max-outside (a .size) (a .net) (a .weight)
-    (sym (c .before .before .before .before .before .before .before .before .is-within .ensures) ∙ not-false _ (c .before .before .before .before .before .before .before .if1 .left))
-    (sym (c .before .before .before .before .before .before .is-within2 .ensures) ∙ not-false _ (c .before .before .before .before .before .if2 .left))
-    (sym (c .before .before .before .before .is-within3 .ensures) ∙ not-false _ (c .before .before .before .if3 .left))
-    (c .before .if4 .left)
+    (sym (c .before .before .before .before .before .before .before .before .before .is-within .ensures) ∙ not-false _ (c .before .before .before .before .before .before .before .before .if1 .left))
+    (sym (c .before .before .before .before .before .before .before .is-within2 .ensures) ∙ not-false _ (c .before .before .before .before .before .before .if2 .left))
+    (sym (c .before .before .before .before .before .is-within3 .ensures) ∙ not-false _ (c .before .before .before .before .if3 .left))
+    (c .before .before .if4 .left)
     (c .if5 .taken)
 
 is-weight-in-range-requires : tie.Need-is-weight-in-range-requires
@@ -60,13 +60,13 @@ is-weight-in-range-requires c κs = search needs
 
 returns-6 : tie.Need-returns-6
 returns-6 c =
-    let a = c .before .before .before .before .before .before .before .before .before .before .args in
+    let a = c .before .before .before .before .before .before .before .before .before .before .before .args in
     c .is-weight-in-range .ensures
     ∙ weight-decides (a .size) (a .net) (a .weight)
-    (sym (c .before .before .before .before .before .before .before .before .before .is-within .ensures) ∙ not-false _ (c .before .before .before .before .before .before .before .before .if1 .left))
-    (sym (c .before .before .before .before .before .before .before .is-within2 .ensures) ∙ not-false _ (c .before .before .before .before .before .before .if2 .left))
-    (sym (c .before .before .before .before .before .is-within3 .ensures) ∙ not-false _ (c .before .before .before .before .if3 .left))
-    (c .before .before .if4 .left)
+    (sym (c .before .before .before .before .before .before .before .before .before .before .is-within .ensures) ∙ not-false _ (c .before .before .before .before .before .before .before .before .before .if1 .left))
+    (sym (c .before .before .before .before .before .before .before .before .is-within2 .ensures) ∙ not-false _ (c .before .before .before .before .before .before .before .if2 .left))
+    (sym (c .before .before .before .before .before .before .is-within3 .ensures) ∙ not-false _ (c .before .before .before .before .before .if3 .left))
+    (c .before .before .before .if4 .left)
     (c .before .if5 .left)
 
 pub is-net-in-range-spec : {M : Type 1} → statement M

@@ -44,7 +44,7 @@ enum-known-form-3 : tie.Need-enum-known-form-3
 enum-known-form-3 c = search needs
 
 net-outcome-requires : tie.Need-net-outcome-requires
-net-outcome-requires c κs = c .before .before .before .before .before .pre (net-stage _ _ _ _ _ _ _ _ (c .before .form3 .given .1) (in-place (c .before .before .before)))
+net-outcome-requires c κs = c .before .before .before .before .before .before .pre (net-stage _ _ _ _ _ _ _ _ (c .before .before .form3 .given .1) (in-place (c .before .before .before .before)))
 
 enum-known-form-4 : tie.Need-enum-known-form-4
 enum-known-form-4 c = search needs
@@ -72,9 +72,9 @@ returns-5 c job h = c .size-outcome2 .ensures _ ∙ ap outcomeOf (tracks-place _
 
 returns-6 : tie.Need-returns-6
 returns-6 c job h =
-    let f = net-filled 0 _ job _ (h .held) _ _ _ _ _ _ (c .before .before .form3 .given .1) (in-place (c .before .before .before .before)) in
+    let f = net-filled 0 _ job _ (h .held) _ _ _ _ _ _ (c .before .before .before .form3 .given .1) (in-place (c .before .before .before .before .before)) in
     c .net-outcome .ensures (jobOf job) start (nets-above _ job h f)
-    ∙ net-below _ _ job _ _ _ _ _ _ _ start h (c .before .before .form3 .given .1) (in-place (c .before .before .before .before))
+    ∙ net-below _ _ job _ _ _ _ _ _ _ start h (c .before .before .before .form3 .given .1) (in-place (c .before .before .before .before .before))
 
 returns-7 : tie.Need-returns-7
 returns-7 c job h =

@@ -16,8 +16,8 @@ enum-known-number c = search needs
 
 put-spaced-requires : tie.Need-put-spaced-requires
 put-spaced-requires c κs =
-    let e = ap length (some-text _ _ (c .before .number .given .1)) in
-    omega (arith, e, c .before .before .before .pre)
+    let e = ap length (some-text _ _ (c .before .before .number .given .1)) in
+    omega (arith, e, c .before .before .before .before .before .pre)
 
 returns : tie.Need-returns
 returns c = none-put _ _ _ (c .enum-told .given .1)
@@ -26,7 +26,7 @@ same-length : tie.Need-same-length
 same-length c = search needs
 
 returns-2 : tie.Need-returns-2
-returns-2 c = some-put _ _ (c .before .before .number .given .1) (c .put-spaced .ensures)
+returns-2 c = some-put _ _ (c .before .before .before .before .before .number .given .1) (c .before .before .put-spaced .ensures)
 
 pub put-optional-spec : {M : Type 1} → statement M
 put-optional-spec =

@@ -19,7 +19,7 @@ pub record RivalWires (job : Job) (earlier : List ℕ) (t : ℕ) (ws : List Wire
   pub drawn : ws ≡ map (wireOf (job .board) t) places
 
 -- the weight of a net, 0 if there is none
-unfoldable pub weightBy : Job → Option Net → ℕ
+unfoldable pub weightBy : Option Net → ℕ
 weightBy none = 0
 weightBy (some n) = weight n
 

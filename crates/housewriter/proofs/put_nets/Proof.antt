@@ -4,6 +4,7 @@ use Rattle.text.specs.Runs.{Going}
 use Rattle.text.proofs.Runs.{going-start, going-on, going-room, going-more, going-end}
 use Rattle.board.specs.Stored.{noNet}
 use Rattle.candidates.proofs.ArraySizes.{net-size}
+use Rattle.candidates.proofs.NetBefore.{net-accepted}
 use Rattle.house.specs.HouseText.{netLine}
 use Rattle.housewriter.proofs.Parts.{netsOn, nets-last, nets-step}
 use Prim.Native.Nat.{_≤_, _+_, _-_}
@@ -32,11 +33,17 @@ element-copy-out-net c = search needs
 put-net-requires : tie.Need-put-net-requires Inv-loop μ-loop
 put-net-requires c κs =
     let l = c .before .before .before in
-    let s = l .before .before in
+    let s = l .before .before .before in
     let job = s .args .t3 in
     let i = l .loop .i in
     let e = nets-step (job .board) (job .nets) (job .nnets) i (omega arith) (omega (arith, net-size job (s .good .1 .1 .0), s .pre .0 .nets-room)) in
-    going-room (ended (netLine (job .board) (getD (job .nets) i noNet))) (netsOn (job .board) (job .nets) (job .nnets) (i + 1)) (going-on e (l .loop .inv .1)) (s .pre .1)
+    (
+      s .pre .0 .accepted .board-range,
+      (
+        net-accepted job (s .pre .0) (net-size job (s .good .1 .1 .0)) i (omega arith) .in-range,
+        going-room (ended (netLine (job .board) (getD (job .nets) i noNet))) (netsOn (job .board) (job .nets) (job .nnets) (i + 1)) (going-on e (l .loop .inv .1)) (s .pre .1),
+      ),
+    )
 
 add-i : tie.Need-add-i Inv-loop μ-loop
 add-i c = search needs
@@ -47,7 +54,7 @@ loop-less c = search needs
 loop-again : tie.Need-loop-again Inv-loop μ-loop
 loop-again c =
     let l = c .before .before .before .before .before .before in
-    let s = l .before .before in
+    let s = l .before .before .before in
     let job = s .args .t3 in
     let i = l .loop .i in
     let e = nets-step (job .board) (job .nets) (job .nnets) i (omega arith) (omega (arith, net-size job (s .good .1 .1 .0), s .pre .0 .nets-room)) in
@@ -56,12 +63,12 @@ loop-again c =
 written : tie.Need-returns Inv-loop μ-loop
 written c =
     let l = c .before in
-    let s = l .before .before in
+    let s = l .before .before .before in
     let job = s .args .t3 in
     going-end (going-on (nets-last (job .board) (job .nets) (job .nnets) (l .loop .i) (omega arith)) (l .loop .inv .1))
 
 same-length : tie.Need-same-length Inv-loop μ-loop
-same-length c = kept-at (written c) (c .before .before .before .pre .1)
+same-length c = kept-at (written c) (c .before .before .before .before .pre .1)
 
 returns : tie.Need-returns Inv-loop μ-loop
 returns c = written c

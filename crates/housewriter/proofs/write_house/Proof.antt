@@ -21,7 +21,7 @@ abbrev top : tie.Start → List ℕ
 top s = topText (s .args .job .board)
 
 abbrev nets : tie.Start → List ℕ
-nets s = netsText (jobOf (s .args .job) .nets)
+nets s = netsText (s .args .job .board) (jobOf (s .args .job) .nets)
 
 abbrev blocks : tie.Start → List ℕ
 blocks s = blocksText (sortBlocks (jobOf (s .args .job) .blocks))

@@ -56,16 +56,13 @@ drawn-place-requires c κs =
 enum-told : tie.Need-enum-told
 enum-told c = search needs
 
-weight-requires : tie.Need-weight-requires
-weight-requires c κs = search needs
-
 add-undrawn-requires-2 : tie.Need-add-undrawn-requires-2
+unfolding weight
 add-undrawn-requires-2 c κs =
-    let s = c .before .before .before .before .before .before .before .before .before .before in
+    let s = c .before .before .before .before .before .before .before .before .before in
     let f = s .pre .1 .1 .0 in
-    let w = weight-range (s .args .board) (s .args .found .net) (f .board-range) (f .net-range (c .before .before .before .before .before .if2 .left)) in
-    let e = c .weight .ensures in
-    (s .pre .0, (s .pre .1 .0, omega (arith, w, e)))
+    let w = weight-range (s .args .board) (s .args .found .net) (f .board-range) (f .net-range (c .before .before .before .before .if2 .left)) in
+    (s .pre .0, (s .pre .1 .0, omega (arith, w)))
 
 enum-known-top : tie.Need-enum-known-top
 enum-known-top c = search needs
@@ -85,14 +82,15 @@ add-drawn-requires c κs =
     )
 
 returns-3 : tie.Need-returns-3
+unfolding weight
 returns-3 c =
-    let s = c .before .before .before .before .before .before .before .before .before .before .before in
+    let s = c .before .before .before .before .before .before .before .before .before .before in
     let a = s .args in
-    let turn = sym (c .before .before .before .before .before .before .before .before .before .is-wire-turn .ensures) ∙ not-false _ (c .before .before .before .before .before .before .before .before .if1 .left) in (
+    let turn = sym (c .before .before .before .before .before .before .before .before .is-wire-turn .ensures) ∙ not-false _ (c .before .before .before .before .before .before .before .if1 .left) in (
       λ job st w acc is f rd map k.
           wire-taken job (a .line) (a .m) (a .stands .now) st w _ _ _ (sym (wire-place job (a .board .tracks) (ap (λ (b : Board). b .tracks) is) (a .m) (a .stands .now) st w k) ∙ turn) k
-          (known-drawn job acc w (a .found) f (c .before .before .before .before .before .before .if2 .left) (a .m .track .0) ∙ ap (λ (b : Board). drawnOf b (a .m .track .0) (w .points) (a .found .net)) is ∙ place-none _ (sym (c .before .before .enum-told .given .1) ∙ c .before .before .before .before .drawn-place .ensures w rd (sym (found-number job acc w (a .found) f (c .before .before .before .before .before .before .if2 .left)))))
-          (λ m h. c .add-undrawn2 .ensures .0 job m w (a .stands .now) (a .stands .now) (known-weight job acc w (a .found) f (c .before .before .before .before .before .before .if2 .left) ∙ ap (λ (b : Board). weight b (a .found .net)) is ∙ sym (c .before .weight .ensures)) h),
+          (known-drawn job acc w (a .found) f (c .before .before .before .before .before .if2 .left) (a .m .track .0) ∙ ap (λ (b : Board). drawnOf b (a .m .track .0) (w .points) (a .found .net)) is ∙ place-none _ (sym (c .before .enum-told .given .1) ∙ c .before .before .before .drawn-place .ensures w rd (sym (found-number job acc w (a .found) f (c .before .before .before .before .before .if2 .left)))))
+          (λ m h. c .add-undrawn2 .ensures .0 job m w (a .stands .now) (a .stands .now) (known-weight job acc w (a .found) f (c .before .before .before .before .before .if2 .left)) h),
       c .add-undrawn2 .ensures .1,
     )
 
@@ -119,7 +117,6 @@ take-wire-spec =
     returns-2
     drawn-place-requires
     enum-told
-    weight-requires
     add-undrawn-requires-2
     enum-known-top
     add-drawn-requires

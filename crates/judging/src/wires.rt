@@ -148,7 +148,8 @@ pub fn add_drawn(
     stands[index] = m.track.0;
     let rows = board::covered(net, shape);
     let lowest = top.0 + rows - 1;
-    let sum = m.sum + net.weight;
+    let weight = net.weight;
+    let sum = m.sum + weight;
     LinesJudged {
         sum,
         lowest: Row(lowest),

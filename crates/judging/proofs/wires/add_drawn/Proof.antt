@@ -43,28 +43,28 @@ sub-lowest c = search needs
 add-sum : tie.Need-add-sum
 unfolding weight
 add-sum c =
-    let s = c .before .before .before .before .before .before .before .before in
+    let s = c .before .before .before .before .before .before .before in
     let fits = s .pre .1 .1 in
     let w = weight-range (s .args .board) (s .args .found .net) (fits .board-range) (fits .net-range) in
     let r = s .pre .1 .0 .sum-range in
     let l = s .pre .0 in
     let f = fits-covered _ _ _ _ fits in
-    omega (arith, w, r, l, f .2, c .before .before .before .covered .ensures)
+    omega (arith, w, r, l, f .2, c .before .before .covered .ensures)
 
 returns : tie.Need-returns
 unfolding weight
 returns c =
-    let s = c .before .before .before .before .before .before .before .before .before in
+    let s = c .before .before .before .before .before .before .before .before in
     let a = s .args in
     let fits = s .pre .1 .1 in
     let w = weight-range (a .board) (a .found .net) (fits .board-range) (fits .net-range) in (
       λ job m v acc is found numbered blocks begun h.
           drawn-kept job (a .line) (s .pre .0) m v (a .m) acc (a .found) found numbered (a .words .now) (a .stands .now) blocks begun (a .top .0) (a .shape) _ _ _
           refl
-          (ap (λ (rows : ℕ). a .top .0 + rows - 1) (c .before .before .before .before .covered .ensures))
-          (c .before .before .before .before .before .first-breach .ensures ∙
+          (ap (λ (rows : ℕ). a .top .0 + rows - 1) (c .before .before .before .covered .ensures))
+          (c .before .before .before .before .first-breach .ensures ∙
           ap (λ (passed : Bool). firstBreach (a .m .breach) passed (a .line))
-          (c .before .before .before .before .before .before .may-stand .ensures ∙ ap (λ (b : Board). isNextAt b (a .words .now) (a .stands .now) (a .found) (a .m) (a .top .0) (a .shape)) (sym is)))
+          (c .before .before .before .before .before .may-stand .ensures ∙ ap (λ (b : Board). isNextAt b (a .words .now) (a .stands .now) (a .found) (a .m) (a .top .0) (a .shape)) (sym is)))
           h,
       kept-range (a .line) _ (a .m) (s .pre .0 .0) (s .pre .1 .0) refl (omega (arith, w)),
     )

@@ -1,26 +1,26 @@
 -- For each clause of `AcceptedJob` and of what it is made of, a board, net, block or job that it turns away, and the largest and smallest
 -- values that it lets through. Assumes nothing.
-use Prim.Native.Nat.{ℕ}
+use Prim.Native.Nat.{ℕ, _≤_}
 use mathlib.Core.Path.{_≡_, refl}
-use mathlib.Core.Logic.{inl}
+use mathlib.Core.Logic.{_⊎_, inl, inr, ⊎-elim}
 use mathlib.Core.List.{List, [], _∷_, List·Memᴰ·head, List·Memᴰ·tail}
 use native.Mathlib.Omega.{arith}
 use lib.ListN.{replicate}
 use Rattle.board.specs.declared.Board.{Board}
 use Rattle.board.specs.declared.Net.{Net}
 use Rattle.board.specs.declared.Block.{Block}
-use Rattle.board.specs.declared.Shape.the-variants.{Stretched}
+use Rattle.board.specs.declared.Shape.the-variants.{Plain, Stretched}
 use Rattle.board.specs.Length.{width, upper, lower, span, plainLength, shortest, needed}
 use Rattle.board.specs.Job.{Job}
 use Rattle.board.specs.Accepted.{BoardInRange, NetInRange, BlockInRange, AcceptedNet, AcceptedJob}
-use Rattle.board.specs.WorkedBoard.{workedBoard, workedBlock, net1, net2}
+use Rattle.board.specs.WorkedBoard.{workedBoard, workedBlock, net1, net1Weighing, net2}
 use Rattle.board.proofs.ShortestShape.{none-allowed}
 
 -- a board of h rows and k tracks
 abbrev sized : ℕ → ℕ → Board
 sized h k = record { rows = h; tracks = k }
 
--- a net by its number, L, R, min and max, and of weight 10
+-- a net by its number, L, R, min and max, of weight 10
 abbrev netWith : ℕ → ℕ → ℕ → ℕ → ℕ → Net
 netWith i l r lo hi = record { number = i; left = record { 0 = l }; right = record { 0 = r }; min = lo; max = hi; weight = 10 }
 
@@ -147,6 +147,37 @@ ten-rows = record {
 pub eleven-rows : AcceptedNet workedBoard (netWith 1 2 4 25 25) → ⊥
 unfolding needed shortest plainLength width span upper lower
 eleven-rows n = omega (arith, n .fits-board)
+
+-- ---- the weight of a net: its needed rows, or from 1 to 999
+
+weighed : (w : ℕ) → (w ≡ 3) ⊎ ((1 ≤ w) × (w ≤ 999)) → AcceptedNet workedBoard (net1Weighing w)
+unfolding needed shortest plainLength width span upper lower
+weighed w h = record {
+  in-range = record {
+    number-range = (omega arith, omega arith);
+    left-range = (omega arith, omega arith);
+    right-range = (omega arith, omega arith);
+    bounds-range = (omega arith, omega arith);
+  };
+  ends-differ = λ (e : _≡_ {A = ℕ} 2 4). omega arith;
+  some-shape = Plain;
+  some-length = record { long = omega arith; short = omega arith };
+  fits-board = omega arith;
+  weight-is = h;
+}
+
+pub weights-in-range : AcceptedNet workedBoard (net1Weighing 1) × AcceptedNet workedBoard (net1Weighing 3) × AcceptedNet workedBoard (net1Weighing 999)
+weights-in-range = (weighed 1 (inr (omega arith, omega arith)), weighed 3 (inl refl), weighed 999 (inr (omega arith, omega arith)))
+
+weighed-so : (w : ℕ) → AcceptedNet workedBoard (net1Weighing w) → (w ≡ 3) ⊎ ((1 ≤ w) × (w ≤ 999))
+unfolding needed shortest plainLength width span upper lower
+weighed-so w n = n .weight-is
+
+pub weight-0 : AcceptedNet workedBoard (net1Weighing 0) → ⊥
+weight-0 n = ⊎-elim (λ (e : _≡_ {A = ℕ} 0 3). omega arith) (λ (h : (1 ≤ 0) × (0 ≤ 999)). omega arith) (weighed-so 0 n)
+
+pub weight-1000 : AcceptedNet workedBoard (net1Weighing 1000) → ⊥
+weight-1000 n = ⊎-elim (λ (e : _≡_ {A = ℕ} 1000 3). omega arith) (λ (h : (1 ≤ 1000) × (1000 ≤ 999)). omega arith) (weighed-so 1000 n)
 
 -- ---- refusals 3 to 6 of a job
 

@@ -1,7 +1,7 @@
 -- Laws of the model's definitions, and facts computed on the boards of document 01.
 pub mod ShortestShape
 pub mod Tops
-pub mod JobWeight
+pub mod Weights
 pub mod Lengths
 pub mod SameNumber
 pub mod StoredJobs

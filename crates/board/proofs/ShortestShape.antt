@@ -2,7 +2,7 @@
 -- allowed. The needed rows of a net are the rows that it covers. Assumes nothing.
 use Prim.Native.Nat.{ℕ, _+_, _*_, _≤_, _<_}
 use mathlib.Core.Path.{_≡_, refl, ap}
-use mathlib.Core.Logic.{_↔_, _⊎_, inl, inr, ⊎-elim}
+use mathlib.Core.Logic.{_↔_, _⊎_, inl, inr}
 use native.Mathlib.Omega.{arith}
 use lib.Dec.{leb}
 use borrow.Author.Tests.{leb-true, leb-false}
@@ -12,10 +12,9 @@ use Rattle.board.specs.declared.Net.{Net}
 use Rattle.board.specs.declared.Shape.{Shape}
 use Rattle.board.specs.declared.Shape.the-variants.{Plain, Stretched}
 use Rattle.board.specs.Length.{width, upper, lower, span, plainLength, extra, lengthOf, Allowed, shortest, needed}
-use Rattle.board.specs.Weight.{weight}
 use Rattle.board.specs.Placement.{covered}
 use Rattle.board.specs.Shrunk.{Shorter}
-use Rattle.board.specs.Accepted.{BoardInRange, NetInRange, AcceptedNet}
+use Rattle.board.specs.Accepted.{BoardInRange, NetInRange}
 
 -- a + |L − R| = b
 pub span-add : (n : Net) → upper n + span n ≡ lower n
@@ -139,14 +138,3 @@ needed-range board n b r =
     let f = fixed-rows board n r in
     let s = stretch-range board n b r in
     omega arith
-
--- the weight of an accepted net: its needed rows, or one from 1 to 999
-pub weight-range : (board : Board) (n : Net) → BoardInRange board → AcceptedNet board n →
-    (1 ≤ weight n) × (weight n ≤ 1024)
-unfolding weight
-weight-range board n b a =
-    let p = needed-pos board n in
-    ⊎-elim
-    (λ (e : n .weight ≡ needed board n). (omega arith, omega arith))
-    (λ (h : (1 ≤ n .weight) × (n .weight ≤ 999)). (omega arith, omega arith))
-    (a .weight-is)

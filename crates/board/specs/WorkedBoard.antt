@@ -1,4 +1,5 @@
 -- The worked example of document 01, "Drawing", as a value: its board, nets, block and job.
+use Prim.Native.Nat.{ℕ}
 use mathlib.Core.List.{[], _∷_}
 use Rattle.board.specs.declared.Board.{Board}
 use Rattle.board.specs.declared.Net.{Net}
@@ -12,6 +13,10 @@ workedBoard = record { rows = 10; tracks = 2 }
 -- (net 1 2 4 7 7)
 abbrev pub net1 : Net
 net1 = record { number = 1; left = record { 0 = 2 }; right = record { 0 = 4 }; min = 7; max = 7; weight = 3 }
+
+-- (net 1 2 4 7 7 w): net 1, which needs 3 rows, with a weight
+abbrev pub net1Weighing : ℕ → Net
+net1Weighing w = record { number = 1; left = record { 0 = 2 }; right = record { 0 = 4 }; min = 7; max = 7; weight = w }
 
 -- (net 2 6 8 11 12)
 abbrev pub net2 : Net

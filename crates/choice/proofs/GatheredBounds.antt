@@ -11,7 +11,8 @@ use Rattle.board.specs.declared.Net.{Net}
 use Rattle.board.specs.Length.{shortest}
 use Rattle.board.specs.Job.{Job}
 use Rattle.board.specs.Accepted.{BoardInRange, AcceptedNet, AcceptedJob}
-use Rattle.board.proofs.ShortestShape.{needed-covered, needed-pos, weight-range}
+use Rattle.board.proofs.ShortestShape.{needed-covered, needed-pos}
+use Rattle.board.proofs.Weights.{weight-range}
 use Rattle.board.proofs.Tops.{last-top-room, accepted-fits}
 use Rattle.board.specs.Tests.{isEligible}
 use Rattle.candidates.specs.declared.Candidates.{Candidates}

@@ -7,7 +7,7 @@ use lib.ListN.{length, getD, take, replicate}
 use Rattle.board.specs.Job.{Job}
 use Rattle.board.specs.Accepted.{AcceptedJob}
 use Rattle.board.specs.Unbeaten.{FilledTrack}
-use Rattle.board.proofs.JobWeight.{job-weight}
+use Rattle.board.proofs.Weights.{job-weight}
 use Rattle.planning.specs.Plan.{planOf}
 use Rattle.planning.specs.Loose.{sumOfTracks}
 use Rattle.planning.proofs.Balance.{sums-add-up}

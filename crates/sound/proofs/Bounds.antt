@@ -18,7 +18,7 @@ use Rattle.board.specs.Length.{width}
 use Rattle.board.specs.Job.{Job}
 use Rattle.board.specs.Placement.{Placement, bottom}
 use Rattle.board.specs.Accepted.{BoardInRange, NetInRange, AcceptedJob}
-use Rattle.board.proofs.JobWeight.{job-weight}
+use Rattle.board.proofs.Weights.{job-weight}
 use Rattle.text.specs.Digits.{digits}
 use Rattle.text.proofs.Numbers.{length-digits}
 use Rattle.layout.specs.declared.Point.{Point}

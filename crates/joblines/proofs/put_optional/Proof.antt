@@ -2,7 +2,6 @@
 use native.Mathlib.Omega.{arith}
 use mathlib.Core.Path.{ap}
 use lib.ListN.{length}
-use Rattle.joblines.specs.Lines.{optionalText}
 use Rattle.joblines.proofs.Lines.{none-put, some-text, some-put}
 use borrow.Author.Needs.{needs}
 use Rattle.joblines.proofs.put_optional.Statement.{statement}

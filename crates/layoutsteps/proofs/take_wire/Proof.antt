@@ -4,7 +4,7 @@ use native.Mathlib.Omega.{arith}
 use borrow.Author.Tests.{not-true, not-false}
 use Rattle.board.specs.declared.Board.{Board}
 use Rattle.board.specs.Weight.{weight}
-use Rattle.board.proofs.ShortestShape.{weight-range}
+use Rattle.board.proofs.Weights.{weight-range}
 use Rattle.layout.specs.Tree.{wire}
 use Rattle.drc.specs.Covers.{drawnOf}
 use Rattle.judging.proofs.Turns.{closes-off, wire-place}

@@ -5,7 +5,7 @@ use mathlib.Core.Bool.{Bool}
 use native.Mathlib.Omega.{arith}
 use Rattle.board.specs.declared.Board.{Board}
 use Rattle.board.specs.Weight.{weight}
-use Rattle.board.proofs.ShortestShape.{weight-range}
+use Rattle.board.proofs.Weights.{weight-range}
 use Rattle.judging.specs.Values.{isNextAt, firstBreach}
 use Rattle.judging.proofs.ValueTests.{fits-covered}
 use Rattle.judging.proofs.Ranges.{kept-range}

@@ -20,7 +20,7 @@ use Rattle.board.specs.WorkedBoard.{workedBoard, workedJob, net1, net2, 
 use Rattle.board.specs.Tests.{isOn, isBefore, isReady, isEligible}
 use Rattle.board.specs.RivalClauses.{brokenClauses, BreaksOnly}
 use Rattle.board.specs.RivalClauses.Clause.{net-of-job, length-from-min, length-to-max, top-from-row-one, top-to-upper, bottom-from-lower, bottom-to-last-row, clear-of-blocks, on-no-earlier-track, preceding-on-earlier-tracks, tops-rise, no-shared-row}
-use Rattle.board.specs.WeightedBoard.{weightedJob, longAlone, twoShort}
+use Rattle.board.specs.WeightedBoard.{weightedJob, tallAlone, twoShort}
 use Rattle.board.specs.RivalExamples.{wide1, odd2, wide3, wideJob, track1, track2, longer3, otherTop, allRows, net6}
 use Rattle.board.proofs.RivalTests.{rival-exact, breaks-only}
 
@@ -61,11 +61,11 @@ pub all-rows-rival : Rival wideJob [] 1 allRows × (rivalSum allRows ≡ 9)
 unfolding brokenClauses rivalSum weight needed shortest
 all-rows-rival = (rival-exact wideJob [] 1 allRows .0 refl, refl)
 
--- rivals add weights: with a weight of 7 the two short nets are heavier than the long one, which has more rows
+-- rivals add weights: with a weight of 7 the two short nets are heavier than the tall one, which has more rows
 pub weighted-rivals :
-    (Rival (weightedJob 7) [] 1 (twoShort 7) × (rivalSum (twoShort 7) ≡ 9)) × (Rival (weightedJob 7) [] 1 longAlone × (rivalSum longAlone ≡ 6))
+    (Rival (weightedJob 7) [] 1 (twoShort 7) × (rivalSum (twoShort 7) ≡ 9)) × (Rival (weightedJob 7) [] 1 tallAlone × (rivalSum tallAlone ≡ 6))
 unfolding brokenClauses rivalSum weight needed shortest
-weighted-rivals = ((rival-exact (weightedJob 7) [] 1 (twoShort 7) .0 refl, refl), (rival-exact (weightedJob 7) [] 1 longAlone .0 refl, refl))
+weighted-rivals = ((rival-exact (weightedJob 7) [] 1 (twoShort 7) .0 refl, refl), (rival-exact (weightedJob 7) [] 1 tallAlone .0 refl, refl))
 
 -- and with one of 2, its needed rows, lighter
 pub unweighted-rivals : Rival (weightedJob 2) [] 1 (twoShort 2) × (rivalSum (twoShort 2) ≡ 4)

@@ -8,8 +8,8 @@ use Rattle.board.specs.declared.Shape.the-variants.{Plain}
 use Rattle.board.specs.Job.{Job}
 use Rattle.board.specs.Placement.{Placement, placementAt}
 
-abbrev pub longNet : Net
-longNet = record { number = 1; left = record { 0 = 1 }; right = record { 0 = 6 }; min = 0; max = 4095; weight = 6 }
+abbrev pub tallNet : Net
+tallNet = record { number = 1; left = record { 0 = 1 }; right = record { 0 = 6 }; min = 0; max = 4095; weight = 6 }
 
 -- net 2 with the weight w
 abbrev pub clockNet : ℕ → Net
@@ -19,11 +19,11 @@ abbrev pub dataNet : Net
 dataNet = record { number = 3; left = record { 0 = 4 }; right = record { 0 = 5 }; min = 0; max = 4095; weight = 2 }
 
 abbrev pub weightedJob : ℕ → Job
-weightedJob w = record { board = record { rows = 6; tracks = 1 }; nets = longNet ∷ clockNet w ∷ dataNet ∷ []; blocks = [] }
+weightedJob w = record { board = record { rows = 6; tracks = 1 }; nets = tallNet ∷ clockNet w ∷ dataNet ∷ []; blocks = [] }
 
 -- the two rival sequences that fill the track
-abbrev pub longAlone : List Placement
-longAlone = placementAt longNet Plain 1 ∷ []
+abbrev pub tallAlone : List Placement
+tallAlone = placementAt tallNet Plain 1 ∷ []
 
 abbrev pub twoShort : ℕ → List Placement
 twoShort w = placementAt (clockNet w) Plain 2 ∷ placementAt dataNet Plain 4 ∷ []

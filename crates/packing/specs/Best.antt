@@ -10,7 +10,8 @@ use Rattle.board.specs.Weight.{weight}
 use Rattle.board.specs.Job.{Job}
 use Rattle.packing.specs.Fits.{fitsAt}
 
--- the sum with net n's top at row j, where `below` is best(j + 1), best(j + 2), .. to best(H + 1)
+-- the sum with net n's top at row j: its weight (order 2), and best below the rows that it needs; `below` is best(j + 1), best(j + 2), .. to
+-- best(H + 1)
 unfoldable pub sumWith : Board → List ℕ → Net → ℕ
 sumWith board below n = weight n + getD below (needed board n - 1) 0
 

@@ -16,7 +16,7 @@ use Rattle.board.specs.Tests.{clearRows, isOn, isBefore, isReady, isEligible}
 use Rattle.board.specs.WorkedBoard.{workedJob, net1, net2, net3, net4, net5}
 use Rattle.board.specs.TriedBoards.{triedBoard, triedNet}
 use Rattle.board.specs.RivalExamples.{otherTop}
-use Rattle.board.specs.WeightedBoard.{weightedJob, longAlone, twoShort}
+use Rattle.board.specs.WeightedBoard.{weightedJob, tallAlone, twoShort}
 use Rattle.packing.specs.Fits.{fitsAt}
 use Rattle.packing.specs.Best.{sumWith, bestAt, table, bestLast, best}
 use Rattle.packing.specs.Walk.{reaches, choice, walk, walkFrom, wiresOf}
@@ -57,7 +57,7 @@ unfolding planned
 long-plan = refl
 
 -- with a weight that is the needed rows the plan has the most rows, not the most nets: net 1 alone, over rows 1 to 6
-pub most-rows-plan : planOf (weightedJob 2) ≡ record { sum = 6; wires = longAlone } ∷ []
+pub most-rows-plan : planOf (weightedJob 2) ≡ record { sum = 6; wires = tallAlone } ∷ []
 unfolding planned
 most-rows-plan = refl
 

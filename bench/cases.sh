@@ -38,6 +38,37 @@ add_job() {
     cat "$work/answer" >> "$stdout"
 }
 
+# adds the job on standard input as add_job does for the operation $1
+add_text() {
+    cat > "$work/job"
+    add_job "$1" "$work/job"
+}
+
+# a job text: a board of $1 rows and $2 tracks with the lines on standard input
+board() {
+    echo "(board"
+    echo " (rows $1)"
+    echo " (tracks $2)"
+    cat
+    echo ")"
+}
+
+# 512 nets of two rows each, one below the other, all of weight 999: on a board of 1,024 rows and one track the sum is 511,488, the largest
+heavy_nets() {
+    for i in $(seq 512); do
+        echo " (net $i $((2 * i - 1)) $((2 * i)) 0 4095 999)"
+    done
+}
+
+# the board on which net 2's weight decides: nets 2 and 3 together are heavier than net 1 if it is above 4; $1 is that weight, or empty
+turned() {
+    board 6 1 <<END
+ (net 1 1 6 0 4095)
+ (net 2 2 3 0 4095${1:+ $1})
+ (net 3 4 5 0 4095)
+END
+}
+
 # adds $4 generated jobs of the family $2 as add_job does for the operation $1, from the seed $3 on, none above 2,000 bytes
 add_family() {
     seed=$3

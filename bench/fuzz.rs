@@ -153,6 +153,9 @@ fn refused_job(case: &mut Case, p: &mut Prng, refused: job::Refusal) {
 /// fixed text, which is its own fixed text.
 fn accepted_job(case: &mut Case, p: &mut Prng, accepted: &job::Job, checks: usize) {
     Tally::count(&mut case.tally.answers, if case.job.len() == 64_000 { "read: accepted, of 64,000 bytes" } else { "read: accepted" });
+    if accepted.nets.iter().any(|net| net.weight.is_some()) {
+        Tally::count(&mut case.tally.answers, "read: accepted, of these with a written weight");
+    }
     let plan = route::plan(accepted);
     let layout = route::layout_text(accepted, &plan).into_bytes();
     let sum: usize = layout.split(|&byte| byte == 10).filter_map(sum_of).sum();
@@ -166,7 +169,7 @@ fn accepted_job(case: &mut Case, p: &mut Prng, accepted: &job::Job, checks: usiz
         case.checked("mutant of the second router", &mutant);
         // of three such texts one is made from the mutant, so that several rules are broken at once
         let from = if p.chance(1, 3) { &mutant } else { &layout };
-        let (kind, text) = hostile::layout_text(p, &case.job, from);
+        let (kind, text) = hostile::layout_text(p, &case.job, accepted, from);
         Tally::count(&mut case.tally.kinds, &format!("layout text: {}", kind));
         case.checked(kind, &text);
     }

@@ -16,17 +16,7 @@
 
 # adds the text on standard input
 add() {
-    cat > "$work/job"
-    add_job house "$work/job"
-}
-
-# a board of 10 rows and 2 tracks with the lines on standard input
-board() {
-    echo "(board"
-    echo " (rows 10)"
-    echo " (tracks 2)"
-    cat
-    echo ")"
+    add_text house
 }
 
 # document 01's board, which is its own fixed text
@@ -51,7 +41,7 @@ filled() {
 }
 
 # blocks by track, A and B, one of them twice
-board <<'END' | add
+board 10 2 <<'END' | add
  (block 2 10 10)
  (block 1 9 9)
  (block 2 9 10)
@@ -60,7 +50,7 @@ board <<'END' | add
 END
 
 # blocks between nets
-board <<'END' | add
+board 10 2 <<'END' | add
  (block 2 1 10)
  (net 1 2 4 7 7)
  (block 2 1 9)
@@ -74,7 +64,7 @@ END
 {
     printf '(board\n(rows 1024)\n(tracks 128)\n'
     for i in $(seq 0 511); do
-        echo "(net $((9488 + i)) $((1024 - i)) $((1023 - i)) 1000 4095)"
+        echo "(net $((9488 + i)) $((1024 - i)) $((1023 - i)) 1000 4095 $((999 - i)))"
     done
     for i in $(seq 255 -1 0); do
         echo "(block $((65 + i / 4)) $((1000 + i / 2 % 2)) $((1022 + i % 2)))"
@@ -83,16 +73,16 @@ END
 } | add
 
 # all blocks equal, as many as there may be, and one more
-yes "(block 2 3 5)" | head -n 256 | board | add
-yes "(block 2 3 5)" | head -n 257 | board | add
+yes "(block 2 3 5)" | head -n 256 | board 10 2 | add
+yes "(block 2 3 5)" | head -n 257 | board 10 2 | add
 
 # no nets, no blocks, neither
-board <<'END' | add
+board 10 2 <<'END' | add
  (block 2 6 6)
  (block 1 1 10)
 END
 example | grep -v block | add
-board < /dev/null | add
+board 10 2 < /dev/null | add
 
 # the fixed text itself, and with other spaces, blank lines and zeros in front: five digits are the most that a number has
 example | add
@@ -103,6 +93,25 @@ example | sed '1s/^/\n  \n/; $s/$/   \n\n/' | add
 example | sed 's/ \([0-9]\)/ 0\1/g' | add
 example | sed 's/\<[0-9]\>/0000&/g; s/10/00010/' | add
 example | sed 's/10/000010/' | add
+
+# weights: the needed rows written, which are left out, for a plain net (3) and a stretched one (4); one less and one more; the ends of the
+# range; zeros in front; outside the range
+for numbers in "2 4 7 7 3" "2 4 7 7 2" "2 4 7 7 4" "6 8 11 12 4" "6 8 11 12 3" "6 8 11 12 5" "2 4 7 7 1" "2 4 7 7 999" "2 4 7 7 00003" \
+    "2 4 7 7 00999" "2 4 7 7 0" "2 4 7 7 1000" "2 4 7 7 3 3"; do
+    echo " (net 1 $numbers)" | board 10 2 | add
+done
+
+# needed rows above 999: left out they are the weight; written they are outside the range; 999 is another weight, but not of 999 rows
+for numbers in "1 1010 0 4095" "1 1010 0 4095 999" "1 1010 0 4095 1010" "1 999 0 4095 999"; do
+    echo " (net 1 $numbers)" | board 1024 1 | add
+done
+
+# a fixed text with weights, and the same with the weights that it leaves out, the needed rows of nets 1, 3 and 5
+weighted() {
+    example | sed 's/\(net 2 .*\))/\1 999)/; s/\(net 4 .*\))/\1 1)/'
+}
+weighted | add
+weighted | sed 's/\(net 1 .*\))/\1 3)/; s/\(net 3 .*\))/\1 02)/; s/\(net 5 .*\))/\1 2)/' | add
 
 # the most bytes, one more, and none
 example | filled 64000 | add

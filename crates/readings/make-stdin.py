@@ -3,7 +3,8 @@
 # ROUTER is the program of the second router; VECTORS is its folder of jobs. That router was written apart from this code, from the
 # documents and the readings in docs/DECISIONS.md, and runs at the level of bench/level (bench/cases.sh says what that is).
 # stdin has those jobs, jobs that ROUTER generates, and the texts below, each ended by byte 255. stdout has what ROUTER says of each:
-# its refusal, or (accepted) where it prints a layout. Nothing of stdout comes from the code in this repository.
+# its refusal, or (accepted) where it prints a layout. Nothing of stdout comes from the code in this repository. The family damaged2 uses the
+# forms that the level knows, so stdin changes with it.
 import glob, os, subprocess, sys
 
 HEAD = '(board\n(rows 10)\n(tracks 2)\n'
@@ -76,13 +77,33 @@ def texts():
         yield job('(net 1 2 4 7 7)', l)
     yield job('(net 5 2 4 7 7)', '(block 1 1 1)', '(net 3 6 8 7 7)')
     yield job('(net 5 2 4 7 7)', '(net 6 6 8 7 7)', '(net 5 1 3 7 7)')
+    # weights: the ends of the range, digits, a seventh number; a weight on other forms
+    for w in ['0', '00000', '1', '00001', '9', '99', '999', '0999', '00999', '000999', '1000', '01000', '1010', '9999', '99999', '100000', '999999',
+              '7 7', '7 0', '0 7', '7 7 7', '-1', '+7', '7.5', '7,', '7x', 'x', '()', '(7)', '7 ', ' 7', '\t7']:
+        yield job('(net 1 2 4 7 7 %s)' % w)
+    for l in ['(net 1 2 4 7 7) 7', '(net 1 2 4 7 7 7', '7 (net 1 2 4 7 7)', '(net 1 2 4 7 7)7', '(net 1 2 4 7)', '( net  1 2  4 7 7  07 )', '(block 1 2 4 7)']:
+        yield job(l)
+    yield '(board\n(rows 10 7)\n(tracks 2)\n)\n'
+    yield '(board\n(rows 10)\n(tracks 2 7)\n)\n'
+    # a weight left out is the needed rows, which may be above the range of a written one
+    for rows in [999, 1000, 1010, 1024]:
+        for w in ['', ' 999', ' 1000', ' %d' % rows]:
+            yield '(board\n(rows 1024)\n(tracks 1)\n(net 1 1 %d 0 4095%s)\n)\n' % (rows, w)
+    # a weight on a line with a fault of number 5, 6, 7, 8 or 9, or with several
+    for w in [0, 1, 999, 1000, 99999]:
+        for l in ['3 1 5 0 4095', '4 2 5 0 4095', '4 1 4 0 4095', '4 5 5 0 4095', '4 1 5 0 8', '4 1 5 60 61', '3 2 2 60 1', '4 0 5 0 4095', '4 1 5 0 4096']:
+            yield job('(net 3 2 4 7 7)', '(net %s %d)' % (l, w))
     # the first faulty line counts, not the smallest number
+    yield job('(net 1 2 2 7 7 7)', '(net 2 2 4 7 7 0)')
+    yield job('(net 1 2 4 7 7 1000)', '(net 2 5 5 7 7 7)', '(nonsense)')
     yield job('(net 1 2 2 7 7)', '(net 2 0 4 7 7)', '(nonsense)')
     yield '(board\n(rows 0)\n(tracks'
     # 512 nets and 256 blocks, and one more of each, which may be faulty too
     yield large(512, '')
     for n in ['(net 513 1 2 0 4095)', '(net 9999 1023 1023 0 4095)', '(net 513 0 2 0 4095)', '(net 1 1 2 0 1)', '(net 513 1 2 0 5000)', '(net 513)']:
         yield large(512, n + '\n')
+    for w in [999, 1000, '7 7']:
+        yield large(512, '(net 513 1 2 0 4095 %s)\n' % w)
     yield large(511, '(net 512 1023 1 0 4095)\n')
     blocks = '(block 1 1 1)\n' * 256
     yield HEAD + blocks + ')\n'
@@ -99,7 +120,8 @@ def main(router, vectors):
         os.environ['LEVEL'] = level.read().strip()
     made = [t.encode() for t in texts()]
     kept = [open(f, 'rb').read() for f in sorted(glob.glob(os.path.join(vectors, '*-*.job')))]
-    for family, seeds in [('damaged', range(1000, 1080)), ('spacing', range(1000, 1040)), ('edge', range(1000, 1040)), ('words', range(1000, 1010))]:
+    for family, seeds in [('damaged', range(1000, 1080)), ('spacing', range(1000, 1040)), ('edge', range(1000, 1040)), ('words', range(1000, 1010)),
+                          ('weights', range(1000, 1010)), ('damaged2', range(1000, 1080))]:
         for seed in seeds:
             t = subprocess.run([router, 'gen', str(seed), family], stdout=subprocess.PIPE, check=True).stdout
             if len(t) < 20000: kept.append(t)

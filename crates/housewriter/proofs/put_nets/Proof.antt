@@ -36,8 +36,7 @@ put-net-requires c κs =
     let s = l .before .before .before in
     let job = s .args .t3 in
     let i = l .loop .i in
-    let e = nets-step (job .board) (job .nets) (job .nnets) i (omega arith) (omega (arith, net-size job (s .good .1 .1 .0), s .pre .0 .nets-room)) in
-    (
+    let e = nets-step (job .board) (job .nets) (job .nnets) i (omega arith) (omega (arith, net-size job (s .good .1 .1 .0), s .pre .0 .nets-room)) in (
       s .pre .0 .accepted .board-range,
       (
         net-accepted job (s .pre .0) (net-size job (s .good .1 .1 .0)) i (omega arith) .in-range,

@@ -21,8 +21,8 @@ use Rattle.jobfile.specs.Read.{State, start, opened, sized, filled, closed, Nex
 use Rattle.jobfile.specs.Answers.{numberOf, lineOf, answerOf}
 use Rattle.jobfile.proofs.Outcomes.{number-below}
 use Rattle.jobfile.proofs.Returned.{returned-job}
+use Rattle.jobsteps.proofs.States.{SizedState, LeadsOn, step-sound}
 use Rattle.reader.specs.Reports.{refusedText, acceptedText, reportText}
-use Rattle.reader.proofs.States.{SizedState, LeadsOn, step-sound}
 
 -- ---- the line that a refusal names
 

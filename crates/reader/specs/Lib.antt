@@ -1,4 +1,3 @@
--- What the code of read holds, and the line that a reading prints.
+-- The step of the reading place, and the line that a reading prints.
 pub mod Cursors
-pub mod LinesAbove
 pub mod Reports

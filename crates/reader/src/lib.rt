@@ -1,6 +1,5 @@
 // Read: a text becomes a job by value, or a refusal that names its line.
 mod cursor;
-mod lines_above;
 pub mod report;
 
 use board::StoredJob;
@@ -8,14 +7,14 @@ use cursor::Cursor;
 use cursor::FormStep;
 use jobfile::Answer;
 use jobfile::Outcome;
-use lines_above::CLOSED;
-use lines_above::Entry;
-use lines_above::LinesAbove;
-use lines_above::entry_of;
-use lines_above::form_outcome;
-use lines_above::head_after;
-use lines_above::net_after;
-use lines_above::nothing_above;
+use jobsteps::CLOSED;
+use jobsteps::Entry;
+use jobsteps::LinesAbove;
+use jobsteps::entry_of;
+use jobsteps::form_outcome;
+use jobsteps::head_after;
+use jobsteps::net_after;
+use jobsteps::nothing_above;
 ghost use mathlib.Core.Path.{_≡_};
 ghost use Prim.Native.Nat.{_≤_};
 ghost use lib.ListN.{length};
@@ -23,7 +22,7 @@ ghost use Rattle.text.specs.Bytes.{lines};
 ghost use Rattle.jobfile.specs.Read.{start, ended, refused, readFrom, readJob};
 ghost use Rattle.jobfile.specs.Answers.{answerOf};
 ghost use Rattle.jobfile.specs.RightAnswer.{RightAnswer};
-ghost use Rattle.reader.specs.LinesAbove.{stateOf, Held, jobAbove};
+ghost use Rattle.jobsteps.specs.LinesAbove.{stateOf, Held, jobAbove};
 
 // A refusal, which hands out no job.
 fn refusal(outcome: Outcome) -> Answer

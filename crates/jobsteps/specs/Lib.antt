@@ -1,0 +1,2 @@
+-- What the code of read holds of the lines above.
+pub mod LinesAbove

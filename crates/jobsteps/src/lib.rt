@@ -34,7 +34,7 @@ const FILLED: usize = 3;
 pub const CLOSED: usize = 4;
 
 // What the lines above come to, but for the nets and blocks themselves: the stage, the size of the board, how many nets and blocks there
-// are, the number of the last net, and the pins that the nets use. It goes by value, some 300 bytes, where the job has 26,000.
+// are, the number of the last net, and the pins that the nets use. It goes by value, some 300 bytes, where the job has 31,000.
 pub struct LinesAbove {
     pub stage: usize,
     pub board: Board,

@@ -125,16 +125,8 @@ plain-range board n b r =
     let e = plain-is board n in
     omega arith
 
--- e and n
+-- e
 pub stretch-range : (board : Board) (n : Net) → BoardInRange board → NetInRange board n → extra (shortest board n) ≤ 2045
 stretch-range board n b r =
     let p = plain-range board n b r in
     shortest-cases board n (λ s. extra s ≤ 2045) (λ h. omega arith) (λ k h l. omega arith)
-
-pub needed-range : (board : Board) (n : Net) → BoardInRange board → NetInRange board n →
-    (1 ≤ needed board n) × (needed board n ≤ 3069)
-unfolding needed
-needed-range board n b r =
-    let f = fixed-rows board n r in
-    let s = stretch-range board n b r in
-    omega arith

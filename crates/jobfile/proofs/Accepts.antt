@@ -64,14 +64,30 @@ last-most k (n ∷ ns) r a =
     (omega (arith, h .0, a .0), (h .0, h .1))
 
 -- the weight of an accepted net
-abbrev Weighs : Board → Net → Type 0
+abbrev pub Weighs : Board → Net → Type 0
 Weighs board n = (n .weight ≡ needed board n) ⊎ ((1 ≤ n .weight) × (n .weight ≤ 999))
 
 -- that of a line, where it is in range
-given-weighs : (board : Board) (i l r lo hi : ℕ) (w : Optional) → WeightInRange w → Weighs board (netGiven board i l r lo hi w)
+pub given-weighs : (board : Board) (i l r lo hi : ℕ) (w : Optional) → WeightInRange w → Weighs board (netGiven board i l r lo hi w)
 unfolding weightGiven needed shortest plainLength span upper lower
 given-weighs board i l r lo hi LeftOut h = inl refl
 given-weighs board i l r lo hi (Written w) h = inr h
+
+-- a net that passes 3, 7, 8 and 9 is accepted, whatever number 5 asks of it
+pub net-passed : (board : Board) (n : Net) (w : Optional) → (WeightInRange w → Weighs board n) → netInRange board n w ≡ true →
+    not (eqb (n .left .0) (n .right .0)) ≡ true → leb (lengthOf board n (shortest board n)) (n .max) ≡ true →
+    leb (needed board n) (board .rows) ≡ true → AcceptedNet board n
+net-passed board n w weighs ranges differ allowed fits =
+    let s = length-is board n .0 allowed in
+    let r = net-range-is board n w .0 ranges in
+    record {
+      in-range = r .0;
+      ends-differ = differ-is (n .left .0) (n .right .0) .0 differ;
+      some-shape = s .0;
+      some-length = s .1;
+      fits-board = leb-true _ _ fits;
+      weight-is = weighs (r .1);
+    }
 
 module _ (k : ℕ) (job : Job) (n : Net) (w : Optional) (weighs : WeightInRange w → Weighs (job .board) n) (a : AcceptedJob job) where
   record Facts : Type 0 where
@@ -84,17 +100,7 @@ module _ (k : ℕ) (job : Job) (n : Net) (w : Optional) (weighs : WeightInRange 
     fits : leb (needed (job .board) n) (job .board .rows) ≡ true
 
   new-net : Facts → AcceptedNet (job .board) n
-  new-net t =
-      let s = length-is (job .board) n .0 (t .allowed) in
-      let r = net-range-is (job .board) n w .0 (t .ranges) in
-      record {
-        in-range = r .0;
-        ends-differ = differ-is (n .left .0) (n .right .0) .0 (t .differ);
-        some-shape = s .0;
-        some-length = s .1;
-        fits-board = leb-true _ _ (t .fits);
-        weight-is = weighs (r .1);
-      }
+  new-net t = net-passed (job .board) n w weighs (t .ranges) (t .differ) (t .allowed) (t .fits)
 
   net-accepted : Facts → AcceptedJob (withNet job n)
   unfolding isAbove

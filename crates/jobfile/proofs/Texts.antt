@@ -117,20 +117,34 @@ unfolding readAs
 lengths = (refl, refl, refl, refl, refl, refl)
 
 -- a weight that is written counts, 1 to 999; one that is left out is the needed rows, also above 999; a written one above 999 is refused 3,
--- also where it is the needed rows, and so is a written 0; a seventh number is 2; 3 comes before 5 to 8; no other form has one more number
+-- also where it is the needed rows, and so is a written 0; 3 comes before 5 to 8
 weights :
     (readAs "(board\n(rows 5)\n(tracks 1)\n(net 1 1 2 0 9 7)\n)\n" ≡ accepted (record { board = boardOf 5 1; nets = netOf 1 1 2 0 9 7 ∷ []; blocks = [] })) ×
+    (readAs "(board\n(rows 5)\n(tracks 1)\n(net 1 1 2 0 9 1)\n)\n" ≡ accepted (record { board = boardOf 5 1; nets = netOf 1 1 2 0 9 1 ∷ []; blocks = [] })) ×
+    (readAs "(board\n(rows 5)\n(tracks 1)\n(net 1 1 2 0 9 999)\n)\n" ≡ accepted (record { board = boardOf 5 1; nets = netOf 1 1 2 0 9 999 ∷ []; blocks = [] })) ×
     (readAs "(board\n(rows 5)\n(tracks 1)\n(net 1 1 2 0 9 2)\n)\n" ≡ readAs "(board\n(rows 5)\n(tracks 1)\n(net 1 1 2 0 9)\n)\n") ×
     (readAs "(board\n(rows 1024)\n(tracks 1)\n(net 1 1 1010 0 4095)\n)\n" ≡ accepted (record { board = boardOf 1024 1; nets = netOf 1 1 1010 0 4095 1010 ∷ []; blocks = [] })) ×
     (readAs "(board\n(rows 1024)\n(tracks 1)\n(net 1 1 1010 0 4095 1010)\n)\n" ≡ refused (OutOfRange 4)) ×
     (readAs "(board\n(rows 5)\n(tracks 1)\n(net 1 1 2 0 9 0)\n)\n" ≡ refused (OutOfRange 4)) ×
     (readAs "(board\n(rows 5)\n(tracks 1)\n(net 1 1 2 0 9 1000)\n)\n" ≡ refused (OutOfRange 4)) ×
-    (readAs "(board\n(rows 5)\n(tracks 1)\n(net 1 1 2 0 9 7 7)\n)\n" ≡ refused (NotOfForm 4)) ×
-    (readAs "(board\n(rows 5)\n(tracks 1)\n(net 1 1 2 0)\n)\n" ≡ refused (NotOfForm 4)) ×
-    (readAs "(board\n(rows 5)\n(tracks 1)\n(net 1 1 2 0 9)\n(net 1 1 2 0 0 1000)\n)\n" ≡ refused (OutOfRange 5)) ×
-    (readAs "(board\n(rows 5)\n(tracks 1)\n(block 1 1 1 7)\n)\n" ≡ refused (NotOfForm 4))
+    (readAs "(board\n(rows 5)\n(tracks 1)\n(net 1 1 2 0 9)\n(net 1 1 1 0 0 1000)\n)\n" ≡ refused (OutOfRange 5))
 unfolding readAs
-weights = (refl, refl, refl, refl, refl, refl, refl, refl, refl, refl)
+weights = (refl, refl, refl, refl, refl, refl, refl, refl, refl)
+
+-- each form with one number less and one more than it takes, and with words behind its closing bracket
+counts :
+    (readAs "(board\n(rows)\n" ≡ refused (NotOfForm 2)) ×
+    (readAs "(board\n(rows 5 6)\n" ≡ refused (NotOfForm 2)) ×
+    (readAs "(board\n(rows 5)\n(tracks)\n" ≡ refused (NotOfForm 3)) ×
+    (readAs "(board\n(rows 5)\n(tracks 1 2)\n" ≡ refused (NotOfForm 3)) ×
+    (readAs "(board\n(rows 5)\n(tracks 1)\n(net 1 1 2 0)\n" ≡ refused (NotOfForm 4)) ×
+    (readAs "(board\n(rows 5)\n(tracks 1)\n(net 1 1 2 0 9 7 7)\n" ≡ refused (NotOfForm 4)) ×
+    (readAs "(board\n(rows 5)\n(tracks 1)\n(block 1 1)\n" ≡ refused (NotOfForm 4)) ×
+    (readAs "(board\n(rows 5)\n(tracks 1)\n(block 1 1 1 7)\n" ≡ refused (NotOfForm 4)) ×
+    (readAs "(board\n(rows 5)\n(tracks 1)\n(net 1 1 2 0 9) 7\n" ≡ refused (NotOfForm 4)) ×
+    (readAs "(board\n(rows 5)\n(tracks 1)\n(net 1 1 2 0 9 7) 7\n" ≡ refused (NotOfForm 4))
+unfolding readAs
+counts = (refl, refl, refl, refl, refl, refl, refl, refl, refl, refl)
 
 -- the board on which a weight turns the choice over: a weight of 2, written or left out, and one of 7
 weighted-board :

@@ -12,7 +12,7 @@ ghost use mathlib.Core.Path.{_≡_};
 ghost use Prim.Native.Nat.{_<_};
 ghost use Rattle.board.specs.declared.StoredJob.{StoredJob};
 ghost use Rattle.board.specs.Accepted.{BoardInRange};
-ghost use Rattle.jobfile.specs.Read.{State, within, unless, go, step};
+ghost use Rattle.jobfile.specs.Read.{State, within, netOf, blockOf, unless, go, step};
 ghost use Rattle.jobrules.specs.Rules.{outcomeOf, RowsInRange};
 ghost use Rattle.jobsteps.specs.LinesAbove.{formStands, entryOf, headAfter, stateOf, NothingAbove, AboveOf, NetAfter};
 
@@ -112,6 +112,31 @@ pub fn head_after(above: LinesAbove, form: Form) -> LinesAbove
     }
 }
 
+// The net of a line by its numbers, still without a weight.
+fn net_on_line(number: usize, left: usize, right: usize, min: usize, max: usize) -> Net
+    ensures { λ r. ⌜ r ≡ netOf number left right min max 0 ⌝ }
+{
+    Net {
+        number,
+        left: Row(left),
+        right: Row(right),
+        min,
+        max,
+        weight: 0,
+    }
+}
+
+// The block of a line by its numbers.
+fn block_on_line(track: usize, first: usize, last: usize) -> Block
+    ensures { λ r. ⌜ r ≡ blockOf track first last ⌝ }
+{
+    Block {
+        track: Track(track),
+        first: Row(first),
+        last: Row(last),
+    }
+}
+
 // The net or the block that a line of this form gives.
 pub fn entry_of(form: Form) -> Entry
     ensures { λ r. ⌜ r ≡ entryOf form ⌝ }
@@ -121,22 +146,10 @@ pub fn entry_of(form: Form) -> Entry
         Form::Board => Entry::Nothing,
         Form::Rows(_) => Entry::Nothing,
         Form::Tracks(_) => Entry::Nothing,
-        Form::Net(number, left, right, min, max, weight) => Entry::OfNet(
-            Net {
-                number,
-                left: Row(left),
-                right: Row(right),
-                min,
-                max,
-                weight: 0,
-            },
-            weight,
-        ),
-        Form::Block(track, first, last) => Entry::OfBlock(Block {
-            track: Track(track),
-            first: Row(first),
-            last: Row(last),
-        }),
+        Form::Net(number, left, right, min, max, weight) => {
+            Entry::OfNet(net_on_line(number, left, right, min, max), weight)
+        }
+        Form::Block(track, first, last) => Entry::OfBlock(block_on_line(track, first, last)),
         Form::Close => Entry::Nothing,
         Form::Other => Entry::Nothing,
     }
@@ -182,14 +195,7 @@ pub fn form_outcome(above: LinesAbove, form: Form, line: usize) -> Outcome
         Form::Rows(h) => size_outcome(1024, h, line),
         Form::Tracks(k) => size_outcome(128, k, line),
         Form::Net(number, left, right, min, max, weight) => {
-            let net = Net {
-                number,
-                left: Row(left),
-                right: Row(right),
-                min,
-                max,
-                weight: 0,
-            };
+            let net = net_on_line(number, left, right, min, max);
             let numbered = above.last < number;
             jobrules::net_outcome(
                 above.board,
@@ -202,11 +208,7 @@ pub fn form_outcome(above: LinesAbove, form: Form, line: usize) -> Outcome
             )
         }
         Form::Block(track, first, last) => {
-            let block = Block {
-                track: Track(track),
-                first: Row(first),
-                last: Row(last),
-            };
+            let block = block_on_line(track, first, last);
             jobrules::block_outcome(above.board, above.nblocks, block, line)
         }
         Form::Close => Outcome::Accepted,

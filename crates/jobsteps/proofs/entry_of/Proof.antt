@@ -1,5 +1,7 @@
 -- `jobsteps::entry_of` meets its contract: one case for each form. Assumes nothing.
-use mathlib.Core.Path.{sym, ap}
+use mathlib.Core.Path.{sym, ap, _∙_}
+use Rattle.board.specs.declared.Net.{Net}
+use Rattle.jobsteps.specs.declared.Entry.the-variants.{OfNet, OfBlock}
 use Rattle.jobsteps.specs.LinesAbove.{entryOf}
 use borrow.Author.Needs.{needs}
 use Rattle.jobsteps.proofs.entry_of.Statement.{statement}
@@ -20,8 +22,14 @@ enum-told-4 c = search needs
 enum-known-form : tie.Need-enum-known-form
 enum-known-form c = search needs
 
+net-on-line-requires : tie.Need-net-on-line-requires
+net-on-line-requires c κs = search needs
+
 enum-known-form-2 : tie.Need-enum-known-form-2
 enum-known-form-2 c = search needs
+
+block-on-line-requires : tie.Need-block-on-line-requires
+block-on-line-requires c κs = search needs
 
 enum-told-5 : tie.Need-enum-told-5
 enum-told-5 c = search needs
@@ -47,11 +55,11 @@ returns-4 c = sym (ap entryOf (c .enum-told4 .given .1))
 
 returns-5 : tie.Need-returns-5
 unfolding entryOf
-returns-5 c = sym (ap entryOf (c .before .form .given .1))
+returns-5 c = ap (λ (n : Net). OfNet n _) (c .net-on-line .ensures) ∙ sym (ap entryOf (c .before .before .form .given .1))
 
 returns-6 : tie.Need-returns-6
 unfolding entryOf
-returns-6 c = sym (ap entryOf (c .before .form2 .given .1))
+returns-6 c = ap OfBlock (c .block-on-line .ensures) ∙ sym (ap entryOf (c .before .before .form2 .given .1))
 
 returns-7 : tie.Need-returns-7
 unfolding entryOf
@@ -70,7 +78,9 @@ entry-of-spec =
     enum-told-3
     enum-told-4
     enum-known-form
+    net-on-line-requires
     enum-known-form-2
+    block-on-line-requires
     enum-told-5
     enum-told-6
     returns

@@ -2,8 +2,10 @@
 use mathlib.Core.Path.{_≡_, sym, ap, _∙_}
 use mathlib.Core.Bool.{true}
 use borrow.Author.Tests.{not-true, not-false}
+use Rattle.board.specs.declared.Net.{Net}
+use Rattle.board.specs.declared.Block.{Block}
 use Rattle.board.specs.Stored.{jobOf}
-use Rattle.jobfile.specs.Read.{start}
+use Rattle.jobfile.specs.Read.{start, testNet, addBlock}
 use Rattle.jobrules.specs.Rules.{outcomeOf}
 use Rattle.jobsteps.specs.LinesAbove.{formStands}
 use Rattle.jobsteps.proofs.Slots.{blocks-used}
@@ -43,11 +45,17 @@ size-outcome-requires-2 c κs = search needs
 enum-known-form-3 : tie.Need-enum-known-form-3
 enum-known-form-3 c = search needs
 
+net-on-line-requires : tie.Need-net-on-line-requires
+net-on-line-requires c κs = search needs
+
 net-outcome-requires : tie.Need-net-outcome-requires
-net-outcome-requires c κs = c .before .before .before .before .before .before .pre (net-stage _ _ _ _ _ _ _ _ (c .before .before .form3 .given .1) (in-place (c .before .before .before .before)))
+net-outcome-requires c κs = c .before .before .before .before .before .before .before .pre (net-stage _ _ _ _ _ _ _ _ (c .before .before .before .form3 .given .1) (in-place (c .before .before .before .before .before)))
 
 enum-known-form-4 : tie.Need-enum-known-form-4
 enum-known-form-4 c = search needs
+
+block-on-line-requires : tie.Need-block-on-line-requires
+block-on-line-requires c κs = search needs
 
 block-outcome-requires : tie.Need-block-outcome-requires
 block-outcome-requires c κs = search needs
@@ -72,15 +80,17 @@ returns-5 c job h = c .size-outcome2 .ensures _ ∙ ap outcomeOf (tracks-place _
 
 returns-6 : tie.Need-returns-6
 returns-6 c job h =
-    let f = net-filled 0 _ job _ (h .held) _ _ _ _ _ _ (c .before .before .before .form3 .given .1) (in-place (c .before .before .before .before .before)) in
+    let f = net-filled 0 _ job _ (h .held) _ _ _ _ _ _ (c .before .before .before .before .form3 .given .1) (in-place (c .before .before .before .before .before .before)) in
     c .net-outcome .ensures (jobOf job) start (nets-above _ job h f)
-    ∙ net-below _ _ job _ _ _ _ _ _ _ start h (c .before .before .before .form3 .given .1) (in-place (c .before .before .before .before .before))
+    ∙ ap (λ (n : Net). outcomeOf (testNet _ _ n _ (jobOf job) start)) (c .before .before .net-on-line .ensures)
+    ∙ net-below _ _ job _ _ _ _ _ _ _ start h (c .before .before .before .before .form3 .given .1) (in-place (c .before .before .before .before .before .before))
 
 returns-7 : tie.Need-returns-7
 returns-7 c job h =
-    let f = block-filled 0 _ job _ (h .held) _ _ _ (c .before .before .form4 .given .1) (in-place (c .before .before .before .before)) in
+    let f = block-filled 0 _ job _ (h .held) _ _ _ (c .before .before .before .form4 .given .1) (in-place (c .before .before .before .before .before)) in
     c .block-outcome .ensures (jobOf job) (h .board-is) (blocks-used job f ∙ h .nblocks-is)
-    ∙ ap outcomeOf (block-place _ _ job _ _ _ _ (c .before .before .form4 .given .1) (in-place (c .before .before .before .before)))
+    ∙ ap (λ (b : Block). outcomeOf (addBlock _ b (jobOf job))) (c .before .block-on-line .ensures)
+    ∙ ap outcomeOf (block-place _ _ job _ _ _ _ (c .before .before .before .form4 .given .1) (in-place (c .before .before .before .before .before)))
 
 returns-8 : tie.Need-returns-8
 returns-8 c job h = close-line _ _ job _ (c .enum-told3 .given .1) (in-place (c .before .before))
@@ -101,8 +111,10 @@ form-outcome-spec =
     enum-known-form-2
     size-outcome-requires-2
     enum-known-form-3
+    net-on-line-requires
     net-outcome-requires
     enum-known-form-4
+    block-on-line-requires
     block-outcome-requires
     enum-told-3
     enum-told-4

@@ -147,13 +147,18 @@ nets-above a job h f =
     record { size-is = h .board-is; count-is = nets-used job f ∙ h .nnets-is; pins = h .nets-are .pins }
 
 -- a net below the lines above, tested with the number of the last of them
-pub net-below : (k : ℕ) (a : LinesAbove) (job : StoredJob) (form : Form) (i l r lo hi : ℕ) (w : Optional) (s : State) → AboveOf a job →
-    form ≡ Is.Net i l r lo hi w → formStands (a .stage) form ≡ true →
-    outcomeOf (testNet k (ltb (a .last) i) (netOf i l r lo hi 0) w (jobOf job) s) ≡ outcomeOf (step k (stateOf (a .stage) job) form)
+pub net-below : (k : ℕ) (a : LinesAbove) (job : StoredJob) (form : Form) (i l r lo hi : ℕ) (w : Optional) (n : Net) (s : State) → AboveOf a job →
+    n ≡ netOf i l r lo hi 0 → form ≡ Is.Net i l r lo hi w → formStands (a .stage) form ≡ true →
+    outcomeOf (testNet k (ltb (a .last) i) n w (jobOf job) s) ≡ outcomeOf (step k (stateOf (a .stage) job) form)
 unfolding addNet isAbove
-net-below k a job form i l r lo hi w s h e p =
-    rw (← h .nets-are .last-is) (weight-same k _ (job .board) (netOf i l r lo hi 0) w (jobOf job) s _)
+net-below k a job form i l r lo hi w n s h m e p =
+    rw (m, ← h .nets-are .last-is) (weight-same k _ (job .board) (netOf i l r lo hi 0) w (jobOf job) s _)
     ∙ ap outcomeOf (net-place k (a .stage) job form i l r lo hi w e p)
+
+-- and a block
+pub block-below : (k stage : ℕ) (job : StoredJob) (form : Form) (t x y : ℕ) (b : Block) → b ≡ blockOf t x y → form ≡ Is.Block t x y →
+    formStands stage form ≡ true → outcomeOf (addBlock k b (jobOf job)) ≡ outcomeOf (step k (stateOf stage job) form)
+block-below k stage job form t x y b m e p = rw m (ap outcomeOf (block-place k stage job form t x y e p))
 
 -- a line that is not refused stands in its place
 pub stands : (k stage : ℕ) (job : StoredJob) (form : Form) → Passes (step k (stateOf stage job) form) → formStands stage form ≡ true
@@ -162,6 +167,9 @@ stands k stage job form p =
     by-test (formStands stage form) (λ e. e) (λ e. absurd (omega (arith, ap (λ (x : Next). numberOf (outcomeOf x)) (wrong-place k stage job form e))))
 
 -- a line that gives a net or a block
+pub entry-same : {n m : Net} {w : Optional} → n ≡ m → OfNet n w ≡ OfNet m w
+entry-same {n} {m} {w} e = ap (λ (x : Net). OfNet x w) e
+
 module _ (k stage : ℕ) (job : StoredJob) where
   pub net-line : (form : Form) (n : Net) (w : Optional) → OfNet n w ≡ entryOf form → formStands stage form ≡ true →
       (stage ≡ 3) × (step k (stateOf stage job) form ≡ addNet k (withWeight (job .board) n w) w (jobOf job))

@@ -1,7 +1,7 @@
 -- `jobsteps::entry_of` meets its contract: one case for each form. Assumes nothing.
 use mathlib.Core.Path.{sym, ap, _∙_}
-use Rattle.board.specs.declared.Net.{Net}
-use Rattle.jobsteps.specs.declared.Entry.the-variants.{OfNet, OfBlock}
+use Rattle.jobsteps.specs.declared.Entry.the-variants.{OfBlock}
+use Rattle.jobsteps.proofs.Lines.{entry-same}
 use Rattle.jobsteps.specs.LinesAbove.{entryOf}
 use borrow.Author.Needs.{needs}
 use Rattle.jobsteps.proofs.entry_of.Statement.{statement}
@@ -55,7 +55,7 @@ returns-4 c = sym (ap entryOf (c .enum-told4 .given .1))
 
 returns-5 : tie.Need-returns-5
 unfolding entryOf
-returns-5 c = ap (λ (n : Net). OfNet n _) (c .net-on-line .ensures) ∙ sym (ap entryOf (c .before .before .form .given .1))
+returns-5 c = entry-same (c .net-on-line .ensures) ∙ sym (ap entryOf (c .before .before .form .given .1))
 
 returns-6 : tie.Need-returns-6
 unfolding entryOf

@@ -2,14 +2,12 @@
 use mathlib.Core.Path.{_≡_, sym, ap, _∙_}
 use mathlib.Core.Bool.{true}
 use borrow.Author.Tests.{not-true, not-false}
-use Rattle.board.specs.declared.Net.{Net}
-use Rattle.board.specs.declared.Block.{Block}
 use Rattle.board.specs.Stored.{jobOf}
-use Rattle.jobfile.specs.Read.{start, testNet, addBlock}
+use Rattle.jobfile.specs.Read.{start}
 use Rattle.jobrules.specs.Rules.{outcomeOf}
 use Rattle.jobsteps.specs.LinesAbove.{formStands}
 use Rattle.jobsteps.proofs.Slots.{blocks-used}
-use Rattle.jobsteps.proofs.Lines.{wrong-place, rows-place, tracks-place, net-below, block-place, net-filled, block-filled, blank-line, board-line, close-line, other-line, net-stage, nets-above}
+use Rattle.jobsteps.proofs.Lines.{wrong-place, rows-place, tracks-place, net-below, block-below, net-filled, block-filled, blank-line, board-line, close-line, other-line, net-stage, nets-above}
 use borrow.Author.Needs.{needs}
 use Rattle.jobsteps.proofs.form_outcome.Statement.{statement}
 use Rattle.jobsteps.proofs.form_outcome.Tie as tie
@@ -82,15 +80,13 @@ returns-6 : tie.Need-returns-6
 returns-6 c job h =
     let f = net-filled 0 _ job _ (h .held) _ _ _ _ _ _ (c .before .before .before .before .form3 .given .1) (in-place (c .before .before .before .before .before .before)) in
     c .net-outcome .ensures (jobOf job) start (nets-above _ job h f)
-    ∙ ap (λ (n : Net). outcomeOf (testNet _ _ n _ (jobOf job) start)) (c .before .before .net-on-line .ensures)
-    ∙ net-below _ _ job _ _ _ _ _ _ _ start h (c .before .before .before .before .form3 .given .1) (in-place (c .before .before .before .before .before .before))
+    ∙ net-below _ _ job _ _ _ _ _ _ _ _ start h (c .before .before .net-on-line .ensures) (c .before .before .before .before .form3 .given .1) (in-place (c .before .before .before .before .before .before))
 
 returns-7 : tie.Need-returns-7
 returns-7 c job h =
     let f = block-filled 0 _ job _ (h .held) _ _ _ (c .before .before .before .form4 .given .1) (in-place (c .before .before .before .before .before)) in
     c .block-outcome .ensures (jobOf job) (h .board-is) (blocks-used job f ∙ h .nblocks-is)
-    ∙ ap (λ (b : Block). outcomeOf (addBlock _ b (jobOf job))) (c .before .block-on-line .ensures)
-    ∙ ap outcomeOf (block-place _ _ job _ _ _ _ (c .before .before .before .form4 .given .1) (in-place (c .before .before .before .before .before)))
+    ∙ block-below _ _ job _ _ _ _ _ (c .before .block-on-line .ensures) (c .before .before .before .form4 .given .1) (in-place (c .before .before .before .before .before))
 
 returns-8 : tie.Need-returns-8
 returns-8 c job h = close-line _ _ job _ (c .enum-told3 .given .1) (in-place (c .before .before))

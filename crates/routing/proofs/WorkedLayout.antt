@@ -1,5 +1,5 @@
--- The text that route writes for document 01's worked board, and for a board on which a weight turns the choice over, byte for byte. The
--- latter's are those of the second router. Assumes nothing.
+-- The text that route writes, byte for byte: document 01's for its worked board, the second router's for the board on which a weight turns the
+-- choice over. Assumes nothing.
 use Prim.Native.Nat.{ℕ}
 use mathlib.Core.Path.{_≡_, refl}
 use mathlib.Core.List.{List}

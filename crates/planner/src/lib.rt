@@ -2,10 +2,7 @@
 ghost use mathlib.Core.Path.{_≡_};
 ghost use Rattle.board.specs.Accepted.{AcceptedJob};
 ghost use Rattle.board.specs.Stored.{jobOf};
-ghost use Prim.Native.Nat.{_≤_};
-ghost use lib.ListN.{length};
 ghost use Rattle.board.specs.Stored.{AcceptedStored};
-ghost use Rattle.candidates.specs.Placed.{precedingOf};
 ghost use Rattle.planner.specs.Chosen.{BestPlan};
 ghost use Rattle.planner.specs.JobPlans.{jobPlanOf};
 ghost use Rattle.planner.specs.Progressed.{OnTurn, noProgress, progressTo, trackPlan};
@@ -82,25 +79,6 @@ pub fn record_track(p: Progress, job: StoredJob, plan: TrackPlan, track: Track) 
     next
 }
 
-// One more track planned: its candidates gathered, its rows filled, its wires recorded.
-fn plan_track(
-    p: Progress,
-    job: StoredJob,
-    before: &[usize; 512],
-    track: Track,
-    flags: &mut [u8],
-) -> Progress
-    requires { ⌜ AcceptedStored job ⌝ }
-    requires { ⌜ now before ≡ precedingOf (jobOf job) ⌝ }
-    requires { ⌜ 524288 ≤ length (now flags) ⌝ }
-    requires { ⌜ OnTurn (jobOf job) (track .0) p ⌝ }
-    ensures { λ r. ⌜ r ≡ progressTo (jobOf job) (track .0) ⌝ }
-{
-    let c = gather(job, before, &p.placed, track, flags);
-    let plan = fill(c, flags, job.board.rows);
-    record_track(p, job, plan, track)
-}
-
 // Nothing planned yet: every net is loose.
 fn no_progress() -> Progress
     ensures { λ r. ⌜ r ≡ noProgress ⌝ }
@@ -126,7 +104,9 @@ pub fn plan_job(job: StoredJob) -> JobPlan
     let mut p = no_progress();
     let mut t = 1;
     while t <= job.board.tracks {
-        p = plan_track(p, job, &before, Track(t), &mut flags);
+        let c = gather(job, &before, &p.placed, Track(t), &mut flags);
+        let plan = fill(c, &flags, job.board.rows);
+        p = record_track(p, job, plan, Track(t));
         t += 1;
     }
     let nets = p.nets;

@@ -5,9 +5,12 @@ use native.Mathlib.Omega.{arith}
 use borrow.Author.Needs.{needs}
 use lib.ListN.{length, length-replicate}
 use Rattle.board.specs.Stored.{jobOf}
-use Rattle.planner.specs.Progressed.{progressTo, OnTurn}
+use Rattle.candidates.specs.Gathered.{Gathered}
+use Rattle.choice.proofs.GatheredBounds.{gathered-bounds}
+use Rattle.choice.proofs.FilledPlan.{filled-plan}
+use Rattle.planner.specs.Progressed.{onFirst, progressTo, OnTurn}
 use Rattle.planner.proofs.PlanIsBest.{best-plan}
-use Rattle.planner.proofs.NextTrack.{none-planned, all-planned}
+use Rattle.planner.proofs.NextTrack.{gathered-first, none-planned, all-planned}
 use Rattle.planner.proofs.plan_job.Statement.{statement}
 use Rattle.planner.proofs.plan_job.Tie as tie
 
@@ -28,19 +31,52 @@ loop-holds c =
     let s = c .before .before in
     (omega arith, omega arith, c .no-progress .ensures ∙ none-planned (jobOf (s .args .job)) (s .pre .accepted), length-replicate {A = ℕ} 524288 0)
 
-slice-aggregate-plan-track : tie.Need-slice-aggregate-plan-track Inv-loop μ-loop
-slice-aggregate-plan-track c = search needs
+slice-aggregate-gather : tie.Need-slice-aggregate-gather Inv-loop μ-loop
+slice-aggregate-gather c = search needs
 
-plan-track-requires : tie.Need-plan-track-requires Inv-loop μ-loop
-plan-track-requires c κs =
-    let l = c .before .before .before .before in
+gather-requires : tie.Need-gather-requires Inv-loop μ-loop
+gather-requires c κs =
+    let l = c .before .before .before .before .before .before in
     let s = l .before .before .before in
-    let t : OnTurn (jobOf (s .args .job)) (l .loop .t) (l .loop .p) = record { track-range = (omega arith, omega arith); so-far = l .loop .inv .2 } in
-    (s .pre, (l .before .before .preceding .ensures, (omega arith, t)))
+    (s .pre, (l .before .before .preceding .ensures, omega arith))
+
+-- the track on turn, and its candidates with the nets of the tracks before it held
+on-turn : (c : tie.After-gather Inv-loop μ-loop) →
+    let l = c .before .before .before .before .before .before .before in
+    OnTurn (jobOf (l .before .before .before .args .job)) (l .loop .t) (l .loop .p)
+on-turn c =
+    let l = c .before .before .before .before .before .before .before in
+    record { track-range = (omega arith, omega arith); so-far = l .loop .inv .2 }
+
+held : (c : tie.After-gather Inv-loop μ-loop) →
+    let l = c .before .before .before .before .before .before .before in
+    let job = jobOf (l .before .before .before .args .job) in
+    Gathered job (onFirst job (l .loop .t - 1)) (l .loop .t) (c .gather .result) (c .gather .last .1 .1 .1 .1 .0)
+held c =
+    let l = c .before .before .before .before .before .before .before in
+    gathered-first (jobOf (l .before .before .before .args .job)) (l .loop .t) (l .loop .p) _ _ (c .gather .result) (on-turn c) (c .gather .ensures)
+
+slice-aggregate-fill : tie.Need-slice-aggregate-fill Inv-loop μ-loop
+slice-aggregate-fill c = search needs
+
+fill-requires : tie.Need-fill-requires Inv-loop μ-loop
+fill-requires c κs =
+    let g = c .before .before in
+    let l = g .before .before .before .before .before .before .before in
+    let s = l .before .before .before in
+    gathered-bounds (jobOf (s .args .job)) _ (l .loop .t) (g .gather .result) _ (s .pre .accepted) (held g) (search needs)
+
+record-track-requires : tie.Need-record-track-requires Inv-loop μ-loop
+record-track-requires c κs =
+    let g = c .before .before .before in
+    let l = g .before .before .before .before .before .before .before in
+    let s = l .before .before .before in
+    let plan = filled-plan (jobOf (s .args .job)) _ (l .loop .t) (g .gather .result) _ (s .pre .accepted) (held g) in
+    (s .pre .accepted, (on-turn g, c .fill .ensures ∙ plan))
 
 add-t : tie.Need-add-t Inv-loop μ-loop
 add-t c =
-    let s = c .before .before .before .before .before .before .before .before .before in
+    let s = c .before .before .before .before .before .before .before .before .before .before .before .before .before .before in
     omega (arith, s .pre .accepted .board-range .tracks-range)
 
 loop-less : tie.Need-loop-less Inv-loop μ-loop
@@ -48,10 +84,11 @@ loop-less c = search needs
 
 loop-again : tie.Need-loop-again Inv-loop μ-loop
 loop-again c =
-    let l = c .before .before .before .before .before .before in
+    let g = c .before .before .before .before in
+    let l = g .before .before .before .before .before .before .before in
     let s = l .before .before .before in
     let e : l .loop .t ≡ l .loop .t + 1 - 1 = omega arith in
-    (omega arith, omega arith, c .before .plan-track .ensures ∙ ap (progressTo (jobOf (s .args .job))) e, search needs)
+    (omega arith, omega (arith, on-turn g .track-range), c .record-track .ensures ∙ ap (progressTo (jobOf (s .args .job))) e, search needs)
 
 returns : tie.Need-returns Inv-loop μ-loop
 returns c =
@@ -71,8 +108,11 @@ plan-job-spec =
     preceding-requires
     no-progress-requires
     loop-holds
-    slice-aggregate-plan-track
-    plan-track-requires
+    slice-aggregate-gather
+    gather-requires
+    slice-aggregate-fill
+    fill-requires
+    record-track-requires
     add-t
     loop-less
     loop-again

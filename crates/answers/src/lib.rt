@@ -1,12 +1,14 @@
 // The answer of an operation that reads a job file and writes a text for its job into a lent buffer, whatever the text is, and the
 // document's number and values of it.
+#![tactic(auto)]
+
 ghost use Rattle.std.specs.Prelude.{◌≡◌, length};
 ghost use Rattle.answers.specs.Answers.{answerValues, answerFor, bufferFor};
 
 use jobfile::Outcome;
 
 // The answer.
-#[derive(Drop)]
+#[derive(Clone, Copy)]
 pub enum TextAnswer {
     // refused as read does; the buffer is untouched
     Refused(Outcome),

@@ -1,4 +1,6 @@
 // The blocked rows of a track, one bit a row, and the top rows at which a placement is clear of them.
+#![tactic(auto)]
+
 ghost use Rattle.std.specs.Prelude.{◌≡◌, ◌&&◌, ◌||◌, true, false, ℕ, ◌+◌, ◌-◌, ◌≤◌, eqb, leb, length, replicate};
 ghost use Rattle.board.specs.Job.{closesRow};
 ghost use Rattle.blockmap.specs.Bits.{is_set};
@@ -7,7 +9,7 @@ ghost use Rattle.blockmap.specs.Clear.{allUnset, flagTops};
 use board::{Block, Row, Track};
 
 // The blocked rows of one track: one bit a row, 64 rows to a word. Shift and mask set and test a row's bit, whose index is row − 1.
-#[derive(Drop)]
+#[derive(Clone, Copy)]
 pub struct BlockMap {
     pub words: [u64; 16],
 }

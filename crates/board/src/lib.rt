@@ -1,4 +1,6 @@
 // The board of a channel: its rows, tracks, nets and blocks, and what one net needs of it.
+#![tactic(auto)]
+
 ghost use Rattle.std.specs.Prelude.{◌≡◌, ◌≤◌};
 ghost use Rattle.board.specs.Length as lengths;
 ghost use Rattle.board.specs.Placement as placements;
@@ -7,16 +9,16 @@ ghost use Rattle.board.specs.Accepted.{BoardInRange, NetInRange};
 // A row of the channel, 1 to 1,024 from the top; its bit and array index are row − 1. Another number stands only where there is no row (0: in
 // an unused slot of a job by value, in what the check keeps of the lines above, for a net that is not on a track), and in what is not yet
 // tested: the net or block that `reader` makes of a line, the top that a wire of a layout has.
-#[derive(Drop)]
+#[derive(Clone, Copy)]
 pub struct Row(pub usize);
 
 // A track of the channel, 1 to 128 from the left. Another number stands only where there is no track (0: in an unused slot of a job by value,
 // and in the check where no track line stands above), and in what is not yet tested: the block of a job's line, the track of a layout's.
-#[derive(Drop)]
+#[derive(Clone, Copy)]
 pub struct Track(pub usize);
 
 // The size of the channel: H rows and K tracks.
-#[derive(Drop)]
+#[derive(Clone, Copy)]
 pub struct Board {
     pub rows: usize,
     pub tracks: usize,
@@ -24,7 +26,7 @@ pub struct Board {
 
 // A net: its pins are at row `left` (L) on the left and `right` (R) on the right; its length is from `min` to `max`. `weight` is what the
 // choice of a track and the sums add for it: the weight that its line gives, or its needed rows where the line leaves it out.
-#[derive(Drop)]
+#[derive(Clone, Copy)]
 pub struct Net {
     pub number: usize,
     pub left: Row,
@@ -35,7 +37,7 @@ pub struct Net {
 }
 
 // A block closes rows `first` to `last` (A to B) of one track on layer 2.
-#[derive(Drop)]
+#[derive(Clone, Copy)]
 pub struct Block {
     pub track: Track,
     pub first: Row,
@@ -43,7 +45,7 @@ pub struct Block {
 }
 
 // A job by value: its nets and blocks stand in the first `nnets` and `nblocks` slots, every other slot is empty.
-#[derive(Drop)]
+#[derive(Clone, Copy)]
 pub struct StoredJob {
     pub board: Board,
     pub nnets: usize,
@@ -53,7 +55,7 @@ pub struct StoredJob {
 }
 
 // How a wire is drawn: plain, or with a hairpin of stretch e.
-#[derive(Drop)]
+#[derive(Clone, Copy)]
 pub enum Shape {
     Plain,
     Stretched(usize),

@@ -1,4 +1,6 @@
 // Reads jobs on standard input, each ended by byte 255, and prints for each its layout or its refusal.
+#![tactic(auto)]
+
 ghost use Rattle.std.specs.Prelude.{◌+◌, ◌≤◌, ◌<◌, length};
 
 use libc::{STDIN_FILENO, STDOUT_FILENO};

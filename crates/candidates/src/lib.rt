@@ -1,4 +1,6 @@
 // The candidates for a track as values, and what makes a net one: the net that precedes it, the nets placed, the blocks of the track.
+#![tactic(auto)]
+
 ghost use Rattle.std.specs.Prelude.{◌≡◌, ℕ, ◌-◌, ◌≤◌, ◌<◌, get_or, eqb};
 ghost use Rattle.board.specs.Stored.{job_of, AcceptedStored};
 ghost use Rattle.blockmap.specs.Bits.{MapOf};
@@ -9,7 +11,7 @@ use board::{Row, StoredJob, Track};
 
 // The eligible nets by rising index. For candidate i: the net's index in the job, its needed rows, its weight, and its first and
 // last top row.
-#[derive(Drop)]
+#[derive(Clone, Copy)]
 pub struct Candidates {
     pub count: usize,
     pub net: [usize; 512],
@@ -20,7 +22,7 @@ pub struct Candidates {
 }
 
 // Of one net at its shortest length: its needed rows, its weight, and its first and last top row.
-#[derive(Drop)]
+#[derive(Clone, Copy)]
 pub struct NetTops {
     pub need: usize,
     pub weight: usize,

@@ -1,4 +1,6 @@
 // Check: a layout text is sound for a job, or broken at its first broken line.
+#![tactic(auto)]
+
 ghost use Rattle.std.specs.Prelude.{◌≡◌, List, ℕ, ◌≤◌, length};
 ghost use Rattle.board.specs.Job.{Job};
 ghost use Rattle.board.specs.Stored.{job_of};
@@ -17,7 +19,7 @@ use layoutsteps::LayoutStep;
 use lines::Place;
 
 // The answer of check.
-#[derive(Drop)]
+#[derive(Clone, Copy)]
 pub enum CheckAnswer {
     // refused as read does for the job
     Refused(Outcome),

@@ -1,4 +1,6 @@
 // The check of the files board.job and board.lay of the current folder.
+#![tactic(auto)]
+
 ghost use Rattle.io.specs.Counts.{IsPrefixLen};
 ghost use Rattle.files.specs.FileTexts.{ReadText};
 ghost use Rattle.checkfiles.specs.LineOfFiles.{LineOfFiles};
@@ -8,7 +10,7 @@ use libc::STDOUT_FILENO;
 use verdicts::PrintedLine;
 
 // Two files as they were read, and the line that is printed for them.
-#[derive(Drop)]
+#[derive(Clone, Copy)]
 pub struct CheckedFiles {
     pub job: FileText,
     pub layout: FileText,

@@ -1,4 +1,6 @@
 // The choice of a track: best(j) from row H up, and the net chosen for each row.
+#![tactic(auto)]
+
 ghost use Rattle.std.specs.Prelude.{◌≡◌, ◌+◌, ◌*◌, ◌≤◌, ◌<◌, length};
 ghost use Rattle.choice.specs.Filled.{lent, hasClearTop, better, inBand, bandTo, pickAmong, filledPlan, InBounds, RowInBounds};
 
@@ -7,21 +9,21 @@ use candidates::Candidates;
 
 // The plan of a track holds a choice for each of its rows: the index of the net that is taken with its top at that row (row j at
 // place j − 1), or 512 for none; and the track's sum, best(1).
-#[derive(Drop)]
+#[derive(Clone, Copy)]
 pub struct TrackPlan {
     pub choice: [usize; 1024],
     pub sum: usize,
 }
 
 // The best sum so far at a row, and the index of the net that first gave it, or 512 where going on to the next row is as good.
-#[derive(Drop)]
+#[derive(Clone, Copy)]
 pub struct Pick {
     pub sum: usize,
     pub at: usize,
 }
 
 // The candidates that have a top in a band of rows: how many, and their indexes from place 0 on, rising.
-#[derive(Drop)]
+#[derive(Clone, Copy)]
 pub struct Band {
     pub count: usize,
     pub index: [usize; 512],

@@ -1,4 +1,6 @@
 // Which placement of its net a wire line draws: the rows in the wire column leave one placement, and its line is written and compared.
+#![tactic(auto)]
+
 ghost use Rattle.std.specs.Prelude.{◌≡◌, ◌≤◌, ◌-◌, min, max};
 ghost use Rattle.text.specs.Bytes.{same};
 ghost use Rattle.board.specs.Placement.{placementAt};
@@ -10,14 +12,14 @@ use board::{Board, Net, Row, Shape, Track};
 use layoutforms::rows::ColumnRows;
 
 // What a wire line draws: a placement of its net, or none.
-#[derive(Drop)]
+#[derive(Clone, Copy)]
 pub enum DrawnPlace {
     Nothing,
     At { top: Row, shape: Shape },
 }
 
 // The one placement that points can draw.
-#[derive(Drop)]
+#[derive(Clone, Copy)]
 struct OnlyPlace {
     pub top: Row,
     pub shape: Shape,

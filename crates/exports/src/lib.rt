@@ -1,5 +1,7 @@
 // What a program in another language can call: route, check and house, and, to be measured by `bench/`, the parts of route: reading a job,
 // and planning it.
+#![tactic(auto)]
+
 ghost use Rattle.std.specs.Prelude.{◌≡◌, ◌≤◌, length, take};
 ghost use Rattle.jobfile.specs.Read.{readJob};
 ghost use Rattle.jobfile.specs.OfAccepted.{OfAccepted};

@@ -1,4 +1,6 @@
 // Files read whole.
+#![tactic(auto)]
+
 ghost use Rattle.std.specs.Prelude.{◌≡◌, ◌≤◌, take};
 ghost use Rattle.io.specs.Counts.{IsPrefixLen};
 ghost use Rattle.text.specs.Written.{Written};
@@ -6,7 +8,7 @@ ghost use Rattle.files.specs.Unopened.{EmptyUnopened};
 ghost use Rattle.files.specs.FileTexts.{ReadText};
 
 // A file as it was read: the first `used` bytes. There is room for one byte more than a text may have, so that one byte too many is seen.
-#[derive(Drop)]
+#[derive(Clone, Copy)]
 pub struct FileText {
     pub bytes: [u8; 64001],
     pub used: usize,

@@ -1,5 +1,7 @@
 // The form that a line of a job is: its tokens are read one after another, and the word behind the opening bracket is looked up in
 // the table of keywords.
+#![tactic(auto)]
+
 ghost use Rattle.std.specs.Prelude.{◌≡◌, ◌≤◌, length, take, drop};
 ghost use Rattle.lines.specs.Tokens.{lineWords};
 ghost use Rattle.jobfile.specs.Forms.{no_word, ifLast, formMade, formAfter, formOpened, readForm};
@@ -11,7 +13,7 @@ use lines::Token;
 use text::Number;
 
 // What stands where a form may have a number: one, with the byte behind it; a closing bracket, with the byte behind it; or something else.
-#[derive(Drop)]
+#[derive(Clone, Copy)]
 enum Argument {
     Value(usize, usize),
     Closing(usize),
@@ -19,7 +21,7 @@ enum Argument {
 }
 
 // The numbers of a form, so many from the first on; complete where a closing bracket behind them ends the line.
-#[derive(Drop)]
+#[derive(Clone, Copy)]
 struct Arguments {
     pub complete: bool,
     pub count: usize,

@@ -1,4 +1,6 @@
 // Gathers the candidates for a track: its eligible nets, with what the choice needs of each.
+#![tactic(auto)]
+
 ghost use Rattle.std.specs.Prelude.{◌≡◌, false, [], ℕ, ◌+◌, ◌-◌, ◌≤◌, ◌<◌, length};
 ghost use Rattle.board.specs.declared.Board.{Board};
 ghost use Rattle.board.specs.Stored.{job_of, AcceptedStored};

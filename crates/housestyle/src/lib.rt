@@ -1,4 +1,6 @@
 // House: a job file becomes the one fixed text of its job in a lent buffer, or one numbered refusal.
+#![tactic(auto)]
+
 ghost use Rattle.std.specs.Prelude.{◌≡◌, length};
 ghost use Rattle.jobfile.specs.Read.{readJob};
 ghost use Rattle.house.specs.HouseText.{houseText};

@@ -1,4 +1,6 @@
 // The fixed text of a job, written into a lent buffer part by part: the board, the nets, the blocks in order, the last line.
+#![tactic(auto)]
+
 ghost use Rattle.std.specs.Prelude.{map, ◌+◌, ◌≤◌, length, take};
 ghost use Rattle.text.specs.Written.{Written, WrittenAt};
 ghost use Rattle.board.specs.Stored.{job_of, AcceptedStored};

@@ -1,15 +1,17 @@
 // Reading a job: each line of a text is a form, and the text becomes a job by value or a refusal that names its line.
+#![tactic(auto)]
+
 use board::StoredJob;
 
 // A last number of a form that a line may leave out.
-#[derive(Drop)]
+#[derive(Clone, Copy)]
 pub enum Optional {
     LeftOut,
     Written(usize),
 }
 
 // What a line of a job is: blank, one of the five forms with its numbers in the order of the line, the closing bracket, or none of these.
-#[derive(Drop)]
+#[derive(Clone, Copy)]
 pub enum Form {
     Blank,
     Board,
@@ -22,7 +24,7 @@ pub enum Form {
 }
 
 // The answer of read: the text is accepted, or refused for one reason; all but one name the faulty line.
-#[derive(Drop)]
+#[derive(Clone, Copy)]
 pub enum Outcome {
     Accepted,
     // above 64,000 bytes
@@ -46,7 +48,7 @@ pub enum Outcome {
 }
 
 // What read returns: the outcome, and the job where it is accepted, the empty job where it is refused.
-#[derive(Drop)]
+#[derive(Clone, Copy)]
 pub struct Answer {
     pub outcome: Outcome,
     pub job: StoredJob,

@@ -1,4 +1,6 @@
 // The programs `route` and `house`: a job on standard input.
+#![tactic(auto)]
+
 ghost use Rattle.io.specs.Counts.{IsPrefixLen};
 ghost use Rattle.files.specs.FileTexts.{ReadText};
 ghost use Rattle.planning.specs.Plan.{plan_of};
@@ -14,7 +16,7 @@ use libc::{STDIN_FILENO, STDOUT_FILENO};
 use printing::Printed;
 
 // The job as it was read, and what is printed for it: the job's text comes back, so that a contract can say whose text or refusal that is.
-#[derive(Drop)]
+#[derive(Clone, Copy)]
 pub struct PrintedInput {
     pub job: FileText,
     pub printed: Printed,

@@ -1,4 +1,6 @@
 // The inner lines of a job's fixed text, each written into the rest of a lent buffer; a writer is told the place and returns the next one.
+#![tactic(auto)]
+
 ghost use Rattle.std.specs.Prelude.{[], ◌∷◌, ◌+◌, ◌≤◌, ◌<◌, length, ◌≡◌};
 ghost use Rattle.text.specs.Written.{Written, WrittenAt};
 ghost use Rattle.board.specs.Accepted.{BoardInRange, NetInRange};

@@ -1,5 +1,7 @@
 // The rules of a job's nets and blocks: what a line that gives one is refused for. A line is held against a few numbers and bits of the lines
 // above and not against the job by value, which would be copied for each line.
+#![tactic(auto)]
+
 ghost use Rattle.std.specs.Prelude.{◌≡◌, List, [], ◌∷◌, ◌++◌, length};
 ghost use Rattle.lists.specs.Lists.{all_of};
 ghost use Rattle.board.specs.Job.{Job};
@@ -14,7 +16,7 @@ use board::{Block, Board, Net, Row, StoredJob, Track};
 use jobfile::{Optional, Outcome};
 
 // The rows of the pins that nets use on either side, one bit a row.
-#[derive(Drop)]
+#[derive(Clone, Copy)]
 pub struct UsedPins {
     pub left: BlockMap,
     pub right: BlockMap,

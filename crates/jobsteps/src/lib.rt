@@ -1,4 +1,6 @@
 // The step over a line of a job: what the lines above come to, by value, what a line below them is refused for, and what it adds.
+#![tactic(auto)]
+
 ghost use Rattle.std.specs.Prelude.{◌≡◌, ◌<◌};
 ghost use Rattle.board.specs.declared.StoredJob.{StoredJob};
 ghost use Rattle.board.specs.Accepted.{BoardInRange};
@@ -29,7 +31,7 @@ pub const CLOSED: usize = 4;
 
 // What the lines above come to, but for the nets and blocks themselves: the stage, the size of the board, how many nets and blocks there
 // are, the number of the last net, and the pins that the nets use. It goes by value, some 300 bytes, where the job has 31,000.
-#[derive(Drop)]
+#[derive(Clone, Copy)]
 pub struct LinesAbove {
     pub stage: usize,
     pub board: Board,
@@ -40,7 +42,7 @@ pub struct LinesAbove {
 }
 
 // What a line adds to the job: a net, still without a weight, and the weight that its line gives it; or a block.
-#[derive(Drop)]
+#[derive(Clone, Copy)]
 pub enum Entry {
     OfNet(Net, Optional),
     OfBlock(Block),

@@ -1,4 +1,6 @@
 // The lines of a layout judged one by one: what the check keeps of the lines above, by value, and what each line leads to.
+#![tactic(auto)]
+
 pub mod nets;
 pub mod wires;
 
@@ -31,7 +33,7 @@ pub const DECIDED: usize = 3;
 // What is kept of the lines above: their stage; the last track line, its track, its line, the sum that it prints and the sum of its wires
 // so far; the lowest row of the last wire drawn on the track; the number of the last loose line; and the line of the first broken wire of the
 // track, or, where the verdict stands, the broken line. 0 where there is none.
-#[derive(Drop)]
+#[derive(Clone, Copy)]
 pub struct LinesJudged {
     pub stage: usize,
     pub track: Track,
@@ -45,7 +47,7 @@ pub struct LinesJudged {
 
 // The net of a line: its index in the job, and the index of the net that precedes it, 512 if there is none. Index 512 stands for no net; what
 // is beside it then says nothing.
-#[derive(Drop)]
+#[derive(Clone, Copy)]
 pub struct NetFound {
     pub index: usize,
     pub net: Net,

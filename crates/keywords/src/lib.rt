@@ -1,11 +1,13 @@
 // The words of the two formats, held in tables of padded bytes and looked up by index when reading and when writing.
+#![tactic(auto)]
+
 ghost use Rattle.std.specs.Prelude.{◌≡◌, ◌+◌, ◌≤◌, ◌<◌, length, get_or};
 ghost use Rattle.text.specs.Bytes.{same};
 ghost use Rattle.text.specs.Written.{Written, WrittenAt};
 ghost use Rattle.keywords.specs.Keywords.{words, word_of, findWord};
 
 // Whose words are meant: those that open a form of a job, or a line of a layout.
-#[derive(Drop)]
+#[derive(Clone, Copy)]
 pub enum Vocabulary {
     Job,
     Layout,

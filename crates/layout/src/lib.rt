@@ -1,7 +1,8 @@
 // Layouts: the tree of a layout, its text, and drawings of placements; definitions in specs/, their theorems in proofs/.
+#![tactic(auto)]
 
 // A point of a wire: (column row).
-#[derive(Drop)]
+#[derive(Clone, Copy)]
 pub struct Point {
     pub column: usize,
     pub row: usize,

@@ -1,5 +1,7 @@
 // The lines of a layout, read exactly: one space before an inner line, single spaces, numbers of one to six digits without leading
 // zeros, and nothing left over. The word behind the opening bracket is looked up in the table of keywords.
+#![tactic(auto)]
+
 mod parts;
 pub mod rows;
 
@@ -14,7 +16,7 @@ use lines::Stop;
 use parts::{LayoutNumber, LayoutPoint, byte_is, point_at, shut_at, spaced_at};
 
 // What a line of a layout is, a wire without its points.
-#[derive(Drop)]
+#[derive(Clone, Copy)]
 pub enum LayoutForm {
     Opening,
     Track { track: usize, sum: usize },

@@ -8,14 +8,14 @@ use lines::Stop;
 use text::Number;
 
 // What stands as a number at a place: its value and the byte behind it; or something else.
-#[derive(Drop)]
+#[derive(Clone, Copy)]
 pub enum LayoutNumber {
     Value(usize, usize),
     Missing,
 }
 
 // What stands as a point at a place: it and the byte behind it; or something else.
-#[derive(Drop)]
+#[derive(Clone, Copy)]
 pub enum LayoutPoint {
     Stands(Point, usize),
     Absent,

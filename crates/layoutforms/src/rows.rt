@@ -7,7 +7,7 @@ use layout::Point;
 use lines::Stop;
 
 // The rows of the first and of the last point of a wire in a column, if there is one.
-#[derive(Drop)]
+#[derive(Clone, Copy)]
 pub struct ColumnRows {
     pub found: bool,
     pub first: usize,

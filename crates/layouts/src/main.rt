@@ -1,4 +1,6 @@
 // Reads jobs and layouts on standard input, in turn, each ended by byte 255, and prints for each pair the verdict of the check.
+#![tactic(auto)]
+
 ghost use Rattle.std.specs.Prelude.{◌+◌, ◌≤◌, ◌<◌, length};
 
 use libc::{STDIN_FILENO, STDOUT_FILENO};

@@ -1,4 +1,6 @@
 // The step over a line of a layout text: the line is read at its place, its net is looked up, and what it leads to is worked out.
+#![tactic(auto)]
+
 ghost use Rattle.std.specs.Prelude.{◌≡◌, ◌-◌, ◌≤◌, ◌<◌, length};
 ghost use Rattle.std.proofs.Math.Option.{Option, some};
 ghost use Rattle.board.specs.Job.{Job};
@@ -19,7 +21,7 @@ use lines::{Place, Step};
 
 // What stands at a place of a layout text: the form of the line there, its first byte and the one after its last, and the place behind
 // it; or nothing more.
-#[derive(Drop)]
+#[derive(Clone, Copy)]
 pub enum LayoutStep {
     Read(LayoutForm, usize, usize, Place),
     End,
@@ -27,7 +29,7 @@ pub enum LayoutStep {
 
 // Where the net of a line is found: its index, 512 where the line is of no net of the job; the slot of the nets that it is copied from, the
 // first where there is no net; and the index of the net that precedes the net in that slot, 512 if there is none.
-#[derive(Drop)]
+#[derive(Clone, Copy)]
 pub struct NetSlot {
     pub index: usize,
     pub slot: usize,

@@ -1,17 +1,19 @@
 // Reading a text line by line and a line token by token, from a place by value that only moves on.
+#![tactic(auto)]
+
 ghost use Rattle.std.specs.Prelude.{◌≡◌, ◌≤◌, length};
 ghost use Rattle.lines.specs.Places.{stopsAt, scan, stepAt};
 ghost use Rattle.lines.specs.Tokens.{tokenAt};
 
 // The place that a reading has come to: the byte at which the next line begins, and the lines passed.
-#[derive(Drop)]
+#[derive(Clone, Copy)]
 pub struct Place {
     pub at: usize,
     pub passed: usize,
 }
 
 // What stands at a place: a line, from its first byte to the one after its last, and the place behind it; or nothing more.
-#[derive(Drop)]
+#[derive(Clone, Copy)]
 pub enum Step {
     Line { from: usize, to: usize, next: Place },
     End,
@@ -19,7 +21,7 @@ pub enum Step {
 
 // What stands at a byte of a line, spaces passed over: a bracket, with the byte behind it; another word, from its first byte to
 // the one after its last; or nothing more.
-#[derive(Drop)]
+#[derive(Clone, Copy)]
 pub enum Token {
     Nothing,
     Open(usize),
@@ -28,7 +30,7 @@ pub enum Token {
 }
 
 // What a scan stops at: the byte that ends a line, a byte that is no space, a byte that ends a word.
-#[derive(Drop)]
+#[derive(Clone, Copy)]
 pub enum Stop {
     LineEnd,
     NotSpace,

@@ -1,4 +1,6 @@
 // What the lines of both formats share when they are written: how an inner line begins, the first line, the last.
+#![tactic(auto)]
+
 ghost use Rattle.std.specs.Prelude.{◌+◌, ◌≤◌, ◌<◌, length};
 ghost use Rattle.text.specs.Written.{Written, WrittenAt};
 ghost use Rattle.keywords.specs.Keywords.{words};

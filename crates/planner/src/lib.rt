@@ -1,4 +1,6 @@
 // The plan of a job by value: tracks 1 to K in order, each chosen with the nets of the tracks before it held.
+#![tactic(auto)]
+
 ghost use Rattle.std.specs.Prelude.{◌≡◌};
 ghost use Rattle.board.specs.Accepted.{AcceptedJob};
 ghost use Rattle.board.specs.Stored.{job_of};
@@ -13,7 +15,7 @@ use choice::{TrackPlan, fill};
 use gathering::gather;
 
 // Where a net stands: on no track, or on a track with its top at a row, in a shape.
-#[derive(Drop)]
+#[derive(Clone, Copy)]
 pub enum Stand {
     Loose,
     Wired {
@@ -24,20 +26,20 @@ pub enum Stand {
 }
 
 // The plan of one net.
-#[derive(Drop)]
+#[derive(Clone, Copy)]
 pub struct NetPlan {
     pub stand: Stand,
 }
 
 // The plan of a job: where each net stands, by its index in the job, and the sum of each track (track t at place t − 1).
-#[derive(Drop)]
+#[derive(Clone, Copy)]
 pub struct JobPlan {
     pub nets: [NetPlan; 512],
     pub sums: [usize; 128],
 }
 
 // What is planned after the first tracks: the track of each net, or 0 where it has none, the plan of each net, and the sum of each track.
-#[derive(Drop)]
+#[derive(Clone, Copy)]
 pub struct Progress {
     pub placed: [usize; 512],
     pub nets: [NetPlan; 512],

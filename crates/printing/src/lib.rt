@@ -1,4 +1,6 @@
 // What the programs print that write a text for a job.
+#![tactic(auto)]
+
 ghost use Rattle.std.specs.Prelude.{replicate, take};
 ghost use Rattle.text.specs.Written.{Written};
 ghost use Rattle.jobfile.specs.Read.{readJob};
@@ -14,7 +16,7 @@ ghost use Rattle.printing.specs.Printed.{printedText, RefusalFits, Reported};
 use answers::TextAnswer;
 
 // A text to print: the first `used` bytes. There is room for every text, so what is printed is never cut.
-#[derive(Drop)]
+#[derive(Clone, Copy)]
 pub struct Printed {
     pub bytes: [u8; 64000],
     pub used: usize,

@@ -6,13 +6,13 @@ use jobfile::Form;
 use lines::{Place, Step};
 
 // The reading place: it moves on by a whole line, never back.
-#[derive(Drop)]
+#[derive(Clone, Copy)]
 pub struct Cursor {
     pub place: Place,
 }
 
 // What stands at a reading place: the form of the line there and the place behind it; or nothing more.
-#[derive(Drop)]
+#[derive(Clone, Copy)]
 pub enum FormStep {
     Read { form: Form, next: Cursor },
     End,

@@ -1,4 +1,6 @@
 // Read: a text becomes a job by value, or a refusal that names its line.
+#![tactic(auto)]
+
 mod cursor;
 pub mod report;
 

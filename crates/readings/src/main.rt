@@ -1,4 +1,6 @@
 // Reads texts on standard input, each ended by byte 255, and prints for each what it is read as, on a line of its own.
+#![tactic(auto)]
+
 ghost use Rattle.std.specs.Prelude.{◌+◌, ◌≤◌, ◌<◌, length};
 
 use libc::{STDIN_FILENO, STDOUT_FILENO};

@@ -1,4 +1,6 @@
 // Route: a job file becomes the text of a layout in a lent buffer, or one numbered refusal.
+#![tactic(auto)]
+
 ghost use Rattle.std.specs.Prelude.{◌≡◌, length};
 ghost use Rattle.jobfile.specs.Read.{readJob};
 ghost use Rattle.planning.specs.Plan.{plan_of};

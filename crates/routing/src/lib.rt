@@ -1,1 +1,2 @@
 // The text that route writes for a job: its definition in specs/, its theorems in proofs/. There is no code here.
+#![tactic(auto)]

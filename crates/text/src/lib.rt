@@ -1,10 +1,12 @@
 // Texts as bytes: decimal numbers and runs of bytes, written into a lent part of a buffer and read from a part of a text.
+#![tactic(auto)]
+
 ghost use Rattle.std.specs.Prelude.{◌≡◌, ◌∷◌, ◌+◌, ◌≤◌, ◌<◌, length};
 ghost use Rattle.text.specs.Digits.{digits, lead, number, as_number};
 ghost use Rattle.text.specs.Written.{Written, WrittenAt};
 
 // What a word says as a number: its value, or that it is none.
-#[derive(Drop)]
+#[derive(Clone, Copy)]
 pub enum Number {
     Value(usize),
     Bad,

@@ -1,4 +1,6 @@
 // Several texts on one standard input, each ended by byte 255, which stands in no text.
+#![tactic(auto)]
+
 ghost use Rattle.std.specs.Prelude.{◌≡◌, ◌≤◌, max, length};
 ghost use Rattle.lines.specs.Places.{scan};
 ghost use Rattle.texts.specs.Ends.{endsText};

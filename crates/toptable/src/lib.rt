@@ -1,4 +1,6 @@
 // The table of a track: which nets are eligible, and what the choice needs of each. The nets of the job are lent for it as a list of records.
+#![tactic(auto)]
+
 ghost use Rattle.std.specs.Prelude.{◌≡◌, ℕ, ◌≤◌, ◌<◌, length, get_or, take};
 ghost use Rattle.board.specs.Stored.{job_of, AcceptedStored};
 ghost use Rattle.board.specs.Accepted.{BoardInRange, AcceptedNet};

@@ -1,4 +1,6 @@
 // What the program `check` prints.
+#![tactic(auto)]
+
 ghost use Rattle.std.specs.Prelude.{◌≤◌, length, replicate};
 ghost use Rattle.jobfile.specs.Read.{readJob};
 ghost use Rattle.checker.specs.Answers.{checkAnswer};
@@ -6,7 +8,7 @@ ghost use Rattle.text.specs.Written.{Written};
 ghost use Rattle.verdicts.specs.Verdicts.{brokenText, verdictLine, checkText};
 
 // A line to print: the first `used` bytes.
-#[derive(Drop)]
+#[derive(Clone, Copy)]
 pub struct PrintedLine {
     pub bytes: [u8; 64],
     pub used: usize,

@@ -1,4 +1,6 @@
 // The points of a wire, written into a lent buffer; a writer is told the place and returns the next one.
+#![tactic(auto)]
+
 ghost use Rattle.std.specs.Prelude.{◌≡◌, ◌+◌, ◌≤◌, length};
 ghost use Rattle.text.specs.Written.{WrittenAt};
 ghost use Rattle.layout.specs.Drawing.{samePoint};

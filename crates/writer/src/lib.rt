@@ -1,4 +1,6 @@
 // The inner lines of a layout, each written into the rest of a lent buffer; a writer is told the place and returns the next one.
+#![tactic(auto)]
+
 ghost use Rattle.std.specs.Prelude.{◌+◌, ◌≤◌, length};
 ghost use Rattle.text.specs.Written.{Written, WrittenAt};
 ghost use Rattle.writer.specs.Lines.{wireLine, Drawable, endedLine};

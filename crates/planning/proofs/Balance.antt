@@ -1,6 +1,6 @@
 -- The balance: all sums of a plan plus the weights of its loose nets are the weights of the nets of the job. Assumes nothing.
 use Prim.Native.Nat.{ℕ, zero, suc, ◌+◌, ◌<◌}
-use mathlib.Core.Path.{◌≡◌, refl, sym, ap}
+use mathlib.Core.Path.{◌≡◌, refl, sym, ap, subst}
 use mathlib.Core.Logic.{⊎_elim}
 use mathlib.Core.Bool.{true, false, or-true}
 use mathlib.Core.List.Memᴰ
@@ -54,6 +54,12 @@ on-move x (y ∷ on) b n =
     let h = on-move x on b n in
     by-test (eqb n.number y) (λ e. rw e (or-true (eqb n.number x))) (λ e. rw e h)
 
+-- the first net of a list taken out of it
+take_first : (on : List ℕ) (ms : List Net) (m : Net) → Each (λ k. m.number < k.number) ms → isOn on m ≡ false →
+    weightSum (without on (m ∷ ms)) ≡ weight m + weightSum (without (m.number ∷ on) (m ∷ ms))
+unfolding without weightSum
+take_first on ms m a h = rw (h, on-self m.number on m refl, without_other m.number on ms a)
+
 module _ (job : Job) where
   take_out : (on : List ℕ) (ns : List Net) (n : Net) → EachPair (λ a b. a.number < b.number) ns → Memᴰ n ns → isOn on n ≡ false →
       weightSum (without on ns) ≡ weight n + weightSum (without (n.number ∷ on) ns)
@@ -63,7 +69,10 @@ module _ (job : Job) where
       ⊎_elim
       (λ (q : n ≡ m).
       let h' : isOn on m ≡ false = rw q at h in
-      rw (q, h', on-self m.number on m refl, without_other m.number on ms r.0))
+      subst
+      (λ (x : Net). weightSum (without on (m ∷ ms)) ≡ weight x + weightSum (without (x.number ∷ on) (m ∷ ms)))
+      (sym q)
+      (take_first on ms m r.0 h'))
       (λ i'.
       let l : m.number < n.number = Each-at (λ k. m.number < k.number) ms n r.0 i' in
       let below = take_out on ms n r.1 i' h in

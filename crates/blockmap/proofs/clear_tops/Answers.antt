@@ -1,0 +1,89 @@
+-- `blockmap::clear_tops` meets its contract: before each turn of the outer loop the bytes of the tops tried are right, every other is as it was, and the rows from the
+-- top to before `known` are clear; before each turn of the inner one the rows from the top to before the current one are clear. Assumes nothing.
+use Prim.Native.Nat.{ℕ, ◌+◌, ◌-◌}
+use mathlib.Core.Bool.{Bool, true, false}
+use mathlib.Core.List.{List}
+use mathlib.Core.Path.{◌≡◌, refl, sym, ◌∙◌}
+use native.Mathlib.Omega.{arith}
+use lib.ListN.{length-set}
+use borrow.Author.Rules.{rules}
+use Rattle.blockmap.specs.Clear.{allUnset}
+use Rattle.blockmap.specs.Bits.{is_set}
+use Rattle.blockmap.proofs.ClearRows.{clear_none, clear-more, clear_of, blocked-in}
+use Rattle.blockmap.proofs.ClearTops.{flags-none, flags-more, flags-again, flags-all}
+use Rattle.blockmap.proofs.clear_tops.Goals as goal
+use Rattle.blockmap.proofs.clear_tops.Goals.{then-known-top, else-known-top}
+
+-- the rows covered from the top on are clear
+abbrev Test : List ℕ → ℕ → ℕ → Bool
+Test words rows top = allUnset words top rows
+
+pub tops-init : goal.tops-init
+tops-init c =
+    let a = c.args in record {
+      same_length = refl;
+      written = flags-none (Test a.map.words a.rows) a.first.0 a.flags.now;
+      not_past = omega arith;
+      clear = clear_none a.map.words a.first.0;
+    }
+
+pub loop-row-init : goal.loop-row-init
+loop-row-init c =
+    elim c.if-known-top.branch [
+      | then-known-top w ↦ record {
+        in_scan = omega arith;
+        from_top = omega arith;
+        clear = λ row h k. absurd (omega arith);
+      }
+      | else-known-top w ↦ record {
+        in_scan = omega arith;
+        from_top = omega arith;
+        clear = λ row h k. c.tops.invariant.clear row h (omega arith);
+      }
+    ]
+
+-- a blocked row met: the top is given up
+pub tops-preserved-then-is_blocked : goal.tops-preserved-then-is_blocked
+tops-preserved-then-is_blocked c =
+    let a = c.args in
+    let t = c.tops in
+    let l = c.loop-row in
+    let met : is_set a.map.words l.row ≡ true = sym c.is_blocked.ensures ∙ c.if-is_blocked.true in
+    let spoilt : allUnset a.map.words t.top a.rows ≡ false = blocked-in a.map.words t.top a.rows l.row l.invariant.from_top (omega arith) met in record {
+      same_length = search rules;
+      written = flags-more (Test a.map.words a.rows) a.first.0 a.flags.now t.flags t.top false (omega arith) t.invariant.written spoilt;
+      not_past = omega arith;
+      clear = λ row h k. l.invariant.clear row (omega arith) k;
+    }
+
+pub loop-row-preserved : goal.loop-row-preserved
+loop-row-preserved c =
+    let words = c.args.map.words in
+    let l = c.loop-row in
+    let free : is_set words l.row ≡ false = sym c.is_blocked.ensures ∙ c.if-is_blocked.false in record {
+      in_scan = omega arith;
+      from_top = omega arith;
+      clear = clear-more words c.tops.top l.row l.invariant.clear free;
+    }
+
+pub bounds-flags-index-in-tops : goal.bounds-flags-index-in-tops
+bounds-flags-index-in-tops c = omega (arith, length-set c.tops.flags (c.tops.top - 1) 0)
+
+-- every row of the scan is clear: the top is flagged
+pub tops-preserved : goal.tops-preserved
+tops-preserved c =
+    let a = c.args in
+    let t = c.tops in
+    let l = c.loop-row in
+    let clear : allUnset a.map.words t.top a.rows ≡ true = clear_of a.map.words t.top a.rows (λ row h k. l.invariant.clear row h (omega arith)) in record {
+      same_length = search rules;
+      written = flags-again (Test a.map.words a.rows) a.first.0 a.flags.now t.flags t.top true (omega arith) t.invariant.written clear;
+      not_past = omega arith;
+      clear = λ row h k. l.invariant.clear row (omega arith) (omega arith);
+    }
+
+pub returns : goal.returns
+returns c =
+    let a = c.args in
+    let t = c.tops in
+    flags-all (Test a.map.words a.rows) a.first.0 a.flags.now t.flags a.last.0 (a.last.0 + 1) t.top t.invariant.written (omega arith) (omega arith) refl

@@ -1,0 +1,23 @@
+-- Before each turn of the outer loop of `blockmap::clear_tops` the bytes of the tops tried are right, every other is as it was, and the rows from the
+-- top to before `known` are clear; before each turn of the inner one the rows from the top to before the current one are clear.
+use Prim.Native.Nat.{◌≤◌, ◌+◌, ◌-◌}
+use mathlib.Core.Path.{◌≡◌}
+use lib.ListN.{length}
+use Rattle.blockmap.specs.Clear.{allUnset, flagTops}
+use Rattle.blockmap.proofs.ClearRows.{ClearFrom}
+use Rattle.blockmap.proofs.clear_tops.Given as goal
+
+abbrev pub invariant-loop-row : goal.invariant-loop-row
+invariant-loop-row l = record {
+  in_scan : l.row ≤ l.end;
+  from_top : l.top ≤ l.row;
+  clear : ClearFrom l.map.words l.top l.row;
+}
+
+abbrev pub invariant-tops : goal.invariant-tops
+invariant-tops l = record {
+  same_length : length l.flags ≡ length l.initial.flags;
+  written : l.flags ≡ flagTops (λ t. allUnset l.map.words t l.rows) l.start (l.top - l.start) l.initial.flags;
+  not_past : l.known ≤ l.top + l.rows;
+  clear : ClearFrom l.map.words l.top l.known;
+}

@@ -1,0 +1,14 @@
+-- `blockmap::with_row` meets its contract: the row's bit is set in its word, and every other bit stays. Assumes nothing.
+use mathlib.Core.Path.{◌≡◌}
+use native.Mathlib.Omega.{arith}
+use lib.ListN.{length}
+use borrow.Author.Rules.{rules}
+use Rattle.blockmap.proofs.RowBits.{withBit, row-set}
+use Rattle.blockmap.proofs.with_row.Goals as goal
+
+pub returns : goal.returns
+unfolding withBit
+returns c k =
+    let words = c.args.map.words in
+    let len : length words ≡ 16 = search rules in
+    row-set words c.args.row.0 (omega arith) (omega arith) k

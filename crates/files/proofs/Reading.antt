@@ -1,29 +1,14 @@
--- What was read, put at the start of a buffer, and what can't be opened. Assumes nothing.
-use Prim.{tt}
-use Prim.Native.Nat.{ℕ, ◌≤◌}
-use mathlib.Core.Path.{◌≡◌, refl, sym}
-use mathlib.Core.Bool.{false}
-use mathlib.Core.List.{List}
-use native.Mathlib.Omega.{arith}
+-- What was read, put behind what was read before. Assumes nothing.
+use Prim.Native.Nat.{ℕ, ◌+◌, ◌-◌, ◌≤◌}
+use mathlib.Core.Path.{◌≡◌, sym, ap, ◌∙◌}
+use mathlib.Core.List.{List, ◌++◌}
 use lib.ListN.{length, take}
-use lib.IntN.{ℤ, pos, negsuc}
-use lib.Seq.{length-take-le}
-use lib.Signed.{lt_z}
-use Rattle.io.specs.Counts.{IsPrefixLen}
-use Rattle.text.specs.Written.{Written}
-use Rattle.text.proofs.Writing.{kept, start-written}
-use Rattle.files.specs.Unopened.{EmptyUnopened}
+use lib.Seq.{length-take-le, take-append-add}
+use borrow.Rule.Slice.PartMut.{put_mid}
+use Rattle.text.proofs.Writing.{back-rest}
 
-pub nothing_read : (fd : ℤ) → EmptyUnopened fd 0
-nothing_read (pos k) = tt
-nothing_read (negsuc k) = refl
-
-pub opened : (fd : ℤ) (r : ℕ) → lt_z fd (pos 0) ≡ false → EmptyUnopened fd r
-opened (pos k) r e = tt
-opened (negsuc k) r e = cc
-
-pub written_start : {w s t : List ℕ} {r : ℕ} → Written w s t r → Written (take r t) s t r
-written_start x = rw (start-written x) x
-
-pub counts-written : {w s t : List ℕ} {r : ℕ} → Written w s t r → length w ≤ length s → IsPrefixLen r t
-counts-written {w} {s} {t} {r} x h = let k = kept x h in let u = x.used in (omega arith, sym (length-take-le r t (omega arith)))
+-- a read into the rest of a buffer keeps what stands before that rest, and its bytes follow
+pub read-more : (p n : ℕ) (s ys : List ℕ) → p ≤ length s → take (p + n) (put_mid p (length s - p) s ys) ≡ take p s ++ take n ys
+read-more p n s ys h =
+    let e : length (take p s) ≡ p = length-take-le p s h in
+    ap (take (p + n)) (back-rest p s ys) ∙ ap (λ (k : ℕ). take (k + n) (take p s ++ ys)) (sym e) ∙ take-append-add (take p s) ys n

@@ -1,16 +1,23 @@
 -- What is promised of a file that is read, taken out clause by clause: none of them asks less than its words say. Assumes nothing.
 use Prim.Native.Nat.{ℕ}
-use mathlib.Core.Path.{◌≡◌, refl}
-use mathlib.Core.List.{◌++◌}
+use mathlib.Core.Path.{◌≡◌, refl, subst}
+use mathlib.Core.List.{List, ◌++◌}
 use lib.ListN.{length, take, drop, replicate}
-use lib.IntN.{negsuc}
 use Rattle.files.specs.declared.FileText.{FileText}
+use Rattle.std.specs.Prelude.{IfSome, Option, Some, Ok, Err}
+use Rattle.std.specs.Io.{StartsWith}
 use Rattle.files.specs.Unopened.{EmptyUnopened}
+use Rattle.files.specs.Given.{FirstGiven}
 use Rattle.files.specs.FileTexts.{text_of, ReadText}
 
--- nothing is read of a descriptor below 0
-pub unopened-is : (k r : ℕ) → EmptyUnopened (negsuc k) r → r ≡ 0
-unopened-is k r h = h
+-- nothing is read of what could not be opened
+pub unopened-is : (F : Type 0) {E : Type 0} (e : E) (r : ℕ) → EmptyUnopened {F = F} (Err e) r → r ≡ 0
+unopened-is F e r h = h
+
+-- the text of a reader whose bytes are known is the first of them, as many as were read
+pub given-is : {F : Type 0} (E : Type 0) (remaining : F → Option (List ℕ)) (file : F) (xs : List ℕ) (t : FileText) → remaining file ≡ Some xs
+    → FirstGiven {F = F} {E = E} remaining (Ok file) (text_of t) → take (length (text_of t)) xs ≡ text_of t
+given-is E remaining file xs t e h = subst (λ (known : Option (List ℕ)). IfSome known (λ ys. StartsWith ys (text_of t))) e h
 
 -- the text is the first bytes of the buffer, as many as were read
 pub text-is : (t : FileText) → text_of t ≡ take t.used t.bytes

@@ -1,7 +1,7 @@
--- A file that can't be opened. Which bytes an open one has no contract can say: C's read promises only how many it moved.
-use Rattle.std.specs.Prelude.{ℕ, ◌≡◌, ℤ, pos, negsuc}
+-- A file that can't be opened.
+use Rattle.std.specs.Prelude.{ℕ, ◌≡◌, Result, Ok, Err}
 
--- r bytes are read of a descriptor; a number below 0 is none, and what can't be opened counts as empty
-abbrev pub EmptyUnopened : ℤ → ℕ → Type 0
-EmptyUnopened (pos k) r = Unit {0}
-EmptyUnopened (negsuc k) r = r ≡ 0
+-- r bytes are read of what was opened, and what can't be opened counts as empty
+abbrev pub EmptyUnopened : {F E : Type 0} → Result F E → ℕ → Type 0
+EmptyUnopened (Ok file) r = Unit {0}
+EmptyUnopened (Err e) r = r ≡ 0

@@ -2,10 +2,16 @@
 #![tactic(auto)]
 
 ghost use Rattle.std.specs.Prelude.{◌≡◌, ◌≤◌, take};
-ghost use Rattle.io.specs.Counts.{IsPrefixLen};
+ghost use Rattle.std.specs.Counts.{IsPrefixLen};
+ghost use Rattle.std.specs.Io.KnownBytes.{Consumes};
 ghost use Rattle.text.specs.Written.{Written};
 ghost use Rattle.files.specs.Unopened.{EmptyUnopened};
-ghost use Rattle.files.specs.FileTexts.{ReadText};
+ghost use Rattle.files.specs.Given.{FirstGiven};
+ghost use Rattle.files.specs.FileTexts.{text_of, ReadText};
+
+use std::io::Read;
+use std::rt::Files;
+use std::{fs, io};
 
 // A file as it was read: the first `used` bytes. There is room for one byte more than a text may have, so that one byte too many is seen.
 #[derive(Clone, Copy)]
@@ -21,38 +27,58 @@ fn lesser(a: usize, b: usize) -> usize
     if a < b { a } else { b }
 }
 
-// Reads an open file into a buffer, as far as it fits and at most 65,536 bytes, closes it, and returns the bytes read. A number below 0 is
-// no open file, and counts as an empty one. The bytes go through a buffer of its own, so that those behind what was read are kept.
-pub fn read_from(fd: i32, out: &mut [u8]) -> usize
+// Reads until the buffer is full, the input ends or a read fails, and returns how many bytes were read. They stand at the start of the
+// buffer, and they are what the reader has given.
+pub fn read_full<R: Read>(reader: &mut R, buf: &mut [u8]) -> usize
+    ensures counts { IsPrefixLen result buf.new }
+    ensures given { Consumes (R.remaining reader.old) (R.remaining reader.new) (take result buf.new) }
+{
+    let mut done = 0;
+    while done < buf.len() {
+        let Ok(n) = reader.read(&mut buf[done..]) else {
+            break;
+        };
+        if n == 0 {
+            break;
+        }
+        done += n;
+    }
+    done
+}
+
+// Reads what was opened into a buffer, as far as it fits and at most 65,536 bytes, closes it, and returns the bytes read. What could not be
+// opened counts as empty. The bytes go through a buffer of its own, so that those behind what was read are kept.
+pub fn read_from<R: Read + Drop>(opened: io::Result<R>, out: &mut [u8]) -> usize
     ensures counts { IsPrefixLen result out.new }
     ensures written { Written (take result out.new) out.old out.new result }
-    ensures unopened { EmptyUnopened fd result }
+    ensures unopened { EmptyUnopened opened result }
+    ensures given { FirstGiven R.remaining opened (take result out.new) }
 {
-    if fd < 0 {
+    let Ok(mut reader) = opened else {
         return 0;
-    }
-    let mut bytes = io::large_buffer();
-    let n = io::read_full(fd, &mut bytes);
-    libc::close(fd);
+    };
+    let mut bytes = [0u8; 65536];
+    let n = read_full(&mut reader, &mut bytes);
     let fitting = lesser(n, out.len());
     text::put_bytes(out, &bytes[..fitting])
 }
 
-// Reads an open file. A number below 0 is none, and counts as an empty one.
-pub fn text_from(fd: i32) -> FileText
+// Reads what was opened. What could not be opened counts as empty.
+pub fn text_from<R: Read + Drop>(opened: io::Result<R>) -> FileText
     ensures read { ReadText result }
     ensures counts { IsPrefixLen result.used result.bytes }
-    ensures unopened { EmptyUnopened fd result.used }
+    ensures unopened { EmptyUnopened opened result.used }
+    ensures given { FirstGiven R.remaining opened (text_of result) }
 {
     let mut bytes = [0u8; 64001];
-    let used = read_from(fd, &mut bytes);
+    let used = read_from(opened, &mut bytes);
     FileText { bytes, used }
 }
 
 // Reads the file of a name. One that can't be opened counts as empty.
-pub fn file_text(path: &[u8]) -> FileText
+pub fn file_text(rt: &impl Files, path: &str) -> FileText
     ensures read { ReadText result }
     ensures counts { IsPrefixLen result.used result.bytes }
 {
-    text_from(os::open_read(path))
+    text_from(fs::open(rt, path))
 }

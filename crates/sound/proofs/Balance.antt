@@ -27,7 +27,7 @@ printed job earlier t (tr ∷ trs) s =
       arith,
       sum-join (weightOf job) (wireNumbers tr.wires) (trackNumbers trs),
       printed job (earlier ++ wireNumbers tr.wires) (suc t) trs s.1,
-      s.0.sum_is_lem,
+      s.0.sum_is,
     )
 
 rise-distinct : (ns : List Net) → EachPair (λ a b. a.number < b.number) ns → Distinct (map (λ n. n.number) ns)

@@ -22,11 +22,15 @@ block_at job b k o (block-range x) = (refl, omega arith)
 block_at job b k o (block-count x) = (refl, omega arith)
 
 module _ (job : Job) (b : Block) (k : ℕ) where
-  block-range-of : BlockFault job b k (OutOfRange k) → BlockInRange job.board b → ⊥
-  block-range-of (block-range x) = x
+  -- what a fault of the block says, by the refusal
+  abbrev Says : Outcome → Type 0
+  Says (OutOfRange m) = BlockInRange job.board b → ⊥
+  Says (TooMany m) = 256 ≤ length job.blocks
+  Says _ = Unit {0}
 
-  block-count-of : BlockFault job b k (TooMany k) → 256 ≤ length job.blocks
-  block-count-of (block-count x) = x
+  says : {o : Outcome} → BlockFault job b k o → Says o
+  says (block-range x) = x
+  says (block-count x) = x
 
   -- refusals 3 and 4, in this order
   abbrev blockTests : List LineTest
@@ -43,10 +47,10 @@ module _ (job : Job) (b : Block) (k : ℕ) where
   block-stands = (
     record {
       fails = λ e. block-range (denied _ (block-range-is job.board b) e);
-      passes = λ e f. block-range-of f ((block-range-is job.board b).0 e);
+      passes = λ e f. says f ((block-range-is job.board b).0 e);
     },
     λ e3. (
-      record { fails = λ e. block-count (omega (arith, ltb-false)); passes = λ e f. omega (arith, ltb-true, block-count-of f) },
+      record { fails = λ e. block-count (omega (arith, ltb-false)); passes = λ e f. omega (arith, ltb-true, says f) },
       λ e4. tt,
     ),
   )

@@ -78,14 +78,21 @@ module _ (above : List Form) (k : ℕ) where
   no-board : LinesReach start above → (o : Outcome) → LineFault above k Is.Board o → ⊥
   no-board r o (not-of-form x) = x r.0
 
-  rows-of-line : {h : ℕ} → LineFault above k (Is.Rows h) (OutOfRange k) → (1 ≤ h) × (h ≤ 1024) → ⊥
+  -- P, if the refusal is that of a number outside its range
+  abbrev IfRange : Type 0 → Outcome → Type 0
+  IfRange P (OutOfRange m) = P
+  IfRange P _ = Unit {0}
+
+  rows-of-line : {h : ℕ} {o : Outcome} → LineFault above k (Is.Rows h) o → IfRange ((1 ≤ h) × (h ≤ 1024) → ⊥) o
+  rows-of-line (not-of-form x) = tt
   rows-of-line (rows-range x) = x
 
   rows-only : (h : ℕ) → LinesReach opened above → (o : Outcome) → LineFault above k (Is.Rows h) o → Memᴰ o (OutOfRange k ∷ [])
   rows-only h r o (not-of-form x) = absurd (x r.0)
   rows-only h r o (rows-range x) = Memᴰ.head refl
 
-  tracks-of-line : {t : ℕ} → LineFault above k (Is.Tracks t) (OutOfRange k) → (1 ≤ t) × (t ≤ 128) → ⊥
+  tracks-of-line : {t : ℕ} {o : Outcome} → LineFault above k (Is.Tracks t) o → IfRange ((1 ≤ t) × (t ≤ 128) → ⊥) o
+  tracks-of-line (not-of-form x) = tt
   tracks-of-line (tracks-range x) = x
 
   tracks-only : (t h : ℕ) → LinesReach (sized h) above → (o : Outcome) → LineFault above k (Is.Tracks t) o →

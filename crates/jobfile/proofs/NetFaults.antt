@@ -17,7 +17,7 @@ use Rattle.board.specs.Length.{Allowed, length_of, shortest, needed}
 use Rattle.board.specs.Accepted.{NetInRange}
 use Rattle.jobfile.specs.declared.Optional.{Optional}
 use Rattle.jobfile.specs.declared.Outcome.{Outcome}
-use Rattle.jobfile.specs.declared.Outcome.TheVariants.{OutOfRange, TooMany, NumberNotAbove, PinUsed, SameRow, NoLength, TooFewRows}
+use Rattle.jobfile.specs.declared.Outcome.TheVariants.{Accepted, TooLong, NotOfForm, OutOfRange, TooMany, NumberNotAbove, PinUsed, SameRow, NoLength, TooFewRows}
 use Rattle.jobfile.specs.Read.{State, filled, go, withNet, weightInRange, netInRange, lastNumber, pinsFree, testNet, isAbove, addNet}
 use Rattle.jobfile.specs.Answers.{number_of, line_of}
 use Rattle.jobfile.specs.Faults.{NetFault, net-range, weight-range, net-count, misnumbered, NotAbove, left-used, right-used, same_row, no_length, too-few-rows}
@@ -44,25 +44,35 @@ module _ {Misnumbered : Type 0} (job : Job) (n : Net) (w : Optional) (k : ℕ) (
   abbrev Faulty : Outcome → Type 0
   Faulty = NetFault Misnumbered job n w k
 
-  no-range : netInRange job.board n w ≡ true → Faulty (OutOfRange k) → ⊥
-  no-range e (net-range x) = x ((net-range-is job.board n w).0 e).0
-  no-range e (weight-range x) = x ((net-range-is job.board n w).0 e).1
+  -- what a fault of it says, by the refusal
+  abbrev Says : Outcome → Type 0
+  Says Accepted = Unit {0}
+  Says TooLong = Unit {0}
+  Says (NotOfForm m) = Unit {0}
+  Says (OutOfRange m) = netInRange job.board n w ≡ true → ⊥
+  Says (TooMany m) = 512 ≤ length job.nets
+  Says (NumberNotAbove m) = Misnumbered
+  Says (PinUsed m) = all_of (pinsFree n) job.nets ≡ true → ⊥
+  Says (SameRow m) = n.left.0 ≡ n.right.0
+  Says (NoLength m) = (s : Shape) → Allowed job.board n s → ⊥
+  Says (TooFewRows m) = job.board.rows < needed job.board n
+
+  says : {o : Outcome} → Faulty o → Says o
+  says (net-range x) = λ e. x ((net-range-is job.board n w).0 e).0
+  says (weight-range x) = λ e. x ((net-range-is job.board n w).0 e).1
+  says (net-count x) = x
+  says (misnumbered x) = x
+  says (left-used m i q) = λ e. ((free-is n m).0 (allOf-at (pinsFree n) job.nets m e i)).0 q
+  says (right-used m i q) = λ e. ((free-is n m).0 (allOf-at (pinsFree n) job.nets m e i)).1 q
+  says (same_row x) = x
+  says (no_length x) = x
+  says (too-few-rows x) = x
 
   some-range : netInRange job.board n w ≡ false → Faulty (OutOfRange k)
   some-range e =
       by-test (weightInRange w)
       (λ q. net-range (λ r. denied _ (net-range-is job.board n w) e (r, (weight-range-is w).0 q)))
       (λ q. weight-range (denied _ (weight-range-is w) q))
-
-  count_of : Faulty (TooMany k) → 512 ≤ length job.nets
-  count_of (net-count x) = x
-
-  number-of : Faulty (NumberNotAbove k) → Misnumbered
-  number-of (misnumbered x) = x
-
-  no-used : all_of (pinsFree n) job.nets ≡ true → Faulty (PinUsed k) → ⊥
-  no-used e (left-used m i q) = ((free-is n m).0 (allOf-at (pinsFree n) job.nets m e i)).0 q
-  no-used e (right-used m i q) = ((free-is n m).0 (allOf-at (pinsFree n) job.nets m e i)).1 q
 
   some-used : all_of (pinsFree n) job.nets ≡ false → Faulty (PinUsed k)
   some-used e =
@@ -74,15 +84,6 @@ module _ {Misnumbered : Type 0} (job : Job) (n : Net) (w : Optional) (k : ℕ) (
       by-test (eqb m.right.0 n.right.0)
       (λ p. right-used m r.1 (eqb-true _ _ p))
       (λ p. absurd (denied (pinsFree n m) (free-is n m) r.2 (eqb-false _ _ q, eqb-false _ _ p))))
-
-  row_of : Faulty (SameRow k) → n.left.0 ≡ n.right.0
-  row_of (same_row x) = x
-
-  length-of : Faulty (NoLength k) → (s : Shape) → Allowed job.board n s → ⊥
-  length-of (no_length x) = x
-
-  rows_of : Faulty (TooFewRows k) → job.board.rows < needed job.board n
-  rows_of (too-few-rows x) = x
 
   -- refusals 3 to 9, in this order
   abbrev netTests : List LineTest
@@ -105,28 +106,28 @@ module _ {Misnumbered : Type 0} (job : Job) (n : Net) (w : Optional) (k : ℕ) (
 
   net-stands : Standing Faulty netTests
   net-stands = (
-    record { fails = some-range; passes = no-range },
+    record { fails = some-range; passes = λ e f. says f e },
     λ e3. (
-      record { fails = λ e. net-count (omega (arith, ltb-false)); passes = λ e f. omega (arith, ltb-true, count_of f) },
+      record { fails = λ e. net-count (omega (arith, ltb-false)); passes = λ e f. omega (arith, ltb-true, says f) },
       λ e4. (
         record {
           fails = λ e. misnumbered (refused-5 ((net-range-is job.board n w).0 e3).0 e);
-          passes = λ e f. passed-5 e (number-of f);
+          passes = λ e f. passed-5 e (says f);
         },
         λ e5. (
-          record { fails = some-used; passes = no-used },
+          record { fails = some-used; passes = λ e f. says f e },
           λ e6. (
             record {
               fails = λ e. same_row (eqb-true _ _ (not-false _ e));
-              passes = λ e f. (differ-is n.left.0 n.right.0).0 e (row_of f);
+              passes = λ e f. (differ-is n.left.0 n.right.0).0 e (says f);
             },
             λ e7. (
               record {
                 fails = λ e. no_length (λ s a. denied _ (length-is job.board n) e (s, a));
-                passes = λ e f. let s = (length-is job.board n).0 e in length-of f s.0 s.1;
+                passes = λ e f. let s = (length-is job.board n).0 e in says f s.0 s.1;
               },
               λ e8. (
-                record { fails = λ e. too-few-rows (omega (arith, leb-false)); passes = λ e f. omega (arith, leb-true, rows_of f) },
+                record { fails = λ e. too-few-rows (omega (arith, leb-false)); passes = λ e f. omega (arith, leb-true, says f) },
                 λ e9. tt,
               ),
             ),

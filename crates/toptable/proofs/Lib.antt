@@ -1,6 +1,4 @@
--- The laws of the table of a track, and of a slice that is lent again.
+-- The laws of the table of a track, and of the nets lent for it.
 pub mod EligibleMarks
 pub mod TableTops
-pub mod LentAgain
-pub mod UnitResult
 pub mod LentNets

@@ -36,17 +36,6 @@ pub tops-put : (board : Board) (n : Net) (i : ℕ) (table : List ℕ) (tops : Ne
 unfolding withTops
 tops-put board n i table tops ne is = rw (ne_eqb (get_or table i 0) 0 ne, is.need, is.weight_is, is.first, is.last) refl
 
--- the places of the four numbers are in the table
-module _ (table : List ℕ) (i : ℕ) (h : i < 512) (r : 2560 ≤ length table) (u v w : ℕ) where
-  pub weight-place : i + 1024 < length (set table (i + 512) u)
-  weight-place = rw (length-set table (i + 512) u) (omega arith)
-
-  pub first-place : i + 1536 < length (set (set table (i + 512) u) (i + 1024) v)
-  first-place = rw (length-set (set table (i + 512) u) (i + 1024) v, length-set table (i + 512) u) (omega arith)
-
-  pub last-place : i + 2048 < length (set (set (set table (i + 512) u) (i + 1024) v) (i + 1536) w)
-  last-place = rw (length-set (set (set table (i + 512) u) (i + 1024) v) (i + 1536) w, length-set (set table (i + 512) u) (i + 1024) v, length-set table (i + 512) u) (omega arith)
-
 module _ (board : Board) (n : Net) (i : ℕ) (table : List ℕ) where
   abbrev s : Shape
   s = shortest board n

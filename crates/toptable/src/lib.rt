@@ -69,7 +69,7 @@ fn put_all_tops(nets: &[Net], board: Board, table: &mut [usize])
     }
 }
 
-// Lends the first `count` records of an array. Its own parameters are plain, so whoever calls it needs no walk by hand.
+// Lends the first `count` records of an array.
 fn lent_tops(nets: [Net; 512], count: usize, board: Board, table: &mut [usize])
     requires { (count ≤ 512) × NetsLent board (take count nets) table.old }
     ensures { table.new ≡ withAllTops board (take count nets) (length (take count nets)) table.old }

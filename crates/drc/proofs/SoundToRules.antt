@@ -119,7 +119,7 @@ module _ (job : Job) (rise : EachPair (λ a b. a.number < b.number) job.nets) wh
       let ws = wireNumbers tr.wires in
       let d' : Distinct (earlier ++ (ws ++ (trackNumbers trs ++ rest))) = rw (append_assoc ws (trackNumbers trs) rest) at d in (
         s.0.track-is,
-        s.0.sum_is_lem,
+        s.0.sum_is,
         track-kept (suc t) earlier tr (trackNumbers trs ++ rest) (omega arith) (omega arith) s.0 d',
         tracks-kept (suc t) (earlier ++ ws) trs rest s.1 (rw (append_assoc earlier ws (trackNumbers trs ++ rest)) d') (omega arith),
       )

@@ -23,6 +23,8 @@ module _ (job : Job) (u s : ℕ) where
   ends_of (track t v) next-track earlier ws = refl
   ends_of (loose k) first-loose earlier ws = refl
   ends_of closes last_line earlier ws = refl
+  ends_of opens e earlier ws = elim e [ ]
+  ends_of (wire w) e earlier ws = elim e [ ]
 
   -- a false sum, where `sum` has the wires above the lines ls
   record SumFails (sum : ℕ) (ls : List (Option Line)) : Type 0 where
@@ -86,6 +88,8 @@ module _ (job : Job) (u s : ℕ) where
   ended-fails sum (track t v) ls next-track c d = rw (c, ne_eqb sum s d)
   ended-fails sum (loose k) ls first-loose c d = rw (c, ne_eqb sum s d)
   ended-fails sum closes ls last_line c d = rw (c, ne_eqb sum s d)
+  ended-fails sum opens ls e c d = elim e [ ]
+  ended-fails sum (wire w) ls e c d = elim e [ ]
 
   differing-fails : (sum : ℕ) (ws : List Wire) (x : Line) (ls : List (Option Line)) → EndsWires x → endsTrack job u x ≡ true → (sum + wiresSum job ws ≡ s → ⊥) →
       isTrueSum job u s sum (map (λ v. some (wire v)) ws ++ some x ∷ ls) ≡ false

@@ -1,0 +1,32 @@
+-- `layoutforms::read_layout_line` meets its contract: a line by its first byte. Assumes nothing.
+use mathlib.Core.Path.{sym, ◌∙◌}
+use mathlib.Core.Bool.{true, false}
+use native.Mathlib.Omega.{arith}
+use Rattle.layoutforms.proofs.NumbersRead.{byte-read}
+use Rattle.layoutforms.proofs.Answers.{line-inner, line-opening, line-closing}
+use Rattle.layoutforms.proofs.read_layout_line.Goals as goal
+
+pub returns-then-byte_is : goal.returns-then-byte_is
+returns-then-byte_is c = c.inner_form.ensures ∙ line-inner _ (sym c.byte_is.ensures ∙ c.if-byte_is.true)
+
+pub slice_bounds-is_word-start : goal.slice_bounds-is_word-start
+slice_bounds-is_word-start c =
+    let h = byte-read c.args.s.now 0 40 (sym c.byte_is-2.ensures ∙ c.if-byte_is-2.true) in
+    omega arith
+
+pub slice_bounds-is_word-count : goal.slice_bounds-is_word-count
+slice_bounds-is_word-count c =
+    let h = byte-read c.args.s.now 0 40 (sym c.byte_is-2.ensures ∙ c.if-byte_is-2.true) in
+    omega arith
+
+pub returns-then-is_word : goal.returns-then-is_word
+returns-then-is_word c = line-opening _ true (sym c.byte_is.ensures ∙ c.if-byte_is.false) (sym c.byte_is-2.ensures ∙ c.if-byte_is-2.true) (sym c.is_word.ensures ∙ c.if-is_word.true)
+
+pub returns-then-byte_is-2 : goal.returns-then-byte_is-2
+returns-then-byte_is-2 c = line-opening _ false (sym c.byte_is.ensures ∙ c.if-byte_is.false) (sym c.byte_is-2.ensures ∙ c.if-byte_is-2.true) (sym c.is_word.ensures ∙ c.if-is_word.false)
+
+pub returns-then-shut_at : goal.returns-then-shut_at
+returns-then-shut_at c = line-closing _ true (sym c.byte_is.ensures ∙ c.if-byte_is.false) (sym c.byte_is-2.ensures ∙ c.if-byte_is-2.false) (sym c.shut_at.ensures ∙ c.if-shut_at.true)
+
+pub returns : goal.returns
+returns c = line-closing _ false (sym c.byte_is.ensures ∙ c.if-byte_is.false) (sym c.byte_is-2.ensures ∙ c.if-byte_is-2.false) (sym c.shut_at.ensures ∙ c.if-shut_at.false)

@@ -1,0 +1,6 @@
+-- `jobrules::with_pins` meets its contract. Assumes nothing.
+use Rattle.jobrules.proofs.Pins.{pins-more}
+use Rattle.jobrules.proofs.with_pins.Goals as goal
+
+pub returns : goal.returns
+returns c = λ nets p. pins-more nets _ _ _ c.with_row-left.ensures c.with_row-right.ensures p

@@ -1,0 +1,15 @@
+-- `jobrules::with_weight` meets its contract. Assumes nothing.
+use mathlib.Core.Path.{sym, ap, ◌∙◌}
+use Rattle.jobfile.specs.Read.{weightGiven, withWeight}
+use Rattle.jobrules.proofs.with_weight.Goals as goal
+
+pub returns-in-LeftOut : goal.returns-in-LeftOut
+unfolding weightGiven
+returns-in-LeftOut c =
+    let a = c.args in
+    (λ i. record { number = a.net.number; left = a.net.left; right = a.net.right; min = a.net.min; max = a.net.max; weight = c.needed.ensures i })
+    ∙ sym (ap (withWeight a.size a.net) c.in-LeftOut.is)
+
+pub returns-in-Written : goal.returns-in-Written
+unfolding weightGiven
+returns-in-Written c = let a = c.args in sym (ap (withWeight a.size a.net) c.in-Written.is)

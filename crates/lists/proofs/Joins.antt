@@ -1,6 +1,6 @@
 -- Statements and tests over the elements of lists joined or mapped. Assumes nothing.
 use mathlib.Core.Path.{◌≡◌, refl, sym, ap, ◌∙◌}
-use mathlib.Core.Bool.{Bool, true, false, ◌&&◌, ◌||◌, and_assoc, or_assoc, or_comm, true≢false}
+use mathlib.Core.Bool.{Bool, false, ◌&&◌, ◌||◌, and_assoc, or_assoc, or_comm, true≢false}
 use mathlib.Core.List.{List, [], ◌∷◌, ◌++◌, map, Memᴰ}
 use Rattle.lists.specs.Lists.{Each, EachPair, any_of, all_of}
 use Rattle.lists.proofs.Cases.{by-test}

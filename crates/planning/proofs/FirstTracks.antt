@@ -8,7 +8,6 @@ use lib.ListN.{length, get_or, take}
 use lib.Seq.{take-suc, length-take-le, take_all}
 use Rattle.board.specs.Job.{Job}
 use Rattle.board.specs.Unbeaten.{FilledTrack, emptyTrack, numbers, numbersOn}
-use Rattle.packing.specs.Walk.{wiresOf}
 use Rattle.planning.specs.Plan.{filledTrack, planFrom, plan_of}
 
 module _ (job : Job) where

@@ -2,12 +2,8 @@
 use mathlib.Core.Path.{refl}
 use Rattle.candidates.specs.Placed.{padded}
 use Rattle.candidates.specs.Gathered.{arraysOf}
-use Rattle.gathering.proofs.no_candidates.Statement.{statement}
-use Rattle.gathering.proofs.no_candidates.Tie as tie
+use Rattle.gathering.proofs.no_candidates.Goals as goal
 
-returns : tie.Need-returns
+pub returns : goal.returns
 unfolding arraysOf padded
 returns c board = refl
-
-pub no-candidates-spec : {M : Type 1} → statement M
-no-candidates-spec = tie.close (tie.spec returns)

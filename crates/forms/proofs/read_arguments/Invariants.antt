@@ -1,3 +1,4 @@
+-- Before each turn of the loop of `forms::read_arguments` the first j numbers are in the array.
 use Prim.Native.Nat.{◌-◌}
 use Rattle.forms.proofs.Gathering.{ArgumentsRead}
 use Rattle.forms.proofs.read_arguments.Given as goal

@@ -1,3 +1,4 @@
+-- Before each turn of the loop of `layoutforms::all_points` the points from place p on decide.
 use mathlib.Core.Path.{◌≡◌}
 use Prim.Native.Nat.{◌≤◌, ◌-◌}
 use lib.ListN.{length, drop}

@@ -1,3 +1,4 @@
+-- Before each turn of the loop of `lines::scan_to` a scan from place i on finds the same as one from the start.
 use mathlib.Core.Path.{◌≡◌}
 use Prim.Native.Nat.{◌-◌, ◌≤◌}
 use lib.ListN.{length}

@@ -1,3 +1,4 @@
+-- Before each turn of the loop of `text::put_bytes` the first j bytes of the text stand over the start of the buffer.
 use mathlib.Core.Path.{◌≡◌}
 use Prim.Native.Nat.{◌-◌, ◌≤◌}
 use lib.ListN.{length, take}

@@ -1,3 +1,4 @@
+-- Before each turn of the loop of `text::read_number` v is the value of the first i digits, and the rest decides.
 use Prim.Native.Nat.{◌-◌}
 use lib.ListN.{length}
 use Rattle.text.proofs.Reading.{Sofar}

@@ -1,3 +1,4 @@
+-- Before each turn of the loop of `layoutforms::rows::rows_from` the rows are those of the points passed, and the points from place p on decide.
 use Prim.Native.Nat.{◌-◌}
 use lib.ListN.{length}
 use Rattle.layoutforms.proofs.RowsRead.{RowsSoFar}

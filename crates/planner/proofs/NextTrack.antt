@@ -1,6 +1,6 @@
 -- What planning the next track needs: the candidates gathered are those with the nets of the earlier tracks held, and the first and the
 -- last track begin and end the plan. Assumes nothing.
-use Prim.Native.Nat.{ℕ, zero, suc, ◌+◌, ◌-◌, ◌≤◌}
+use Prim.Native.Nat.{ℕ, zero, suc, ◌-◌, ◌≤◌}
 use mathlib.Core.Path.{◌≡◌, refl, sym, ap, ap₂, ◌∙◌}
 use mathlib.Core.Bool.{not, not-not}
 use mathlib.Core.List.{List, [], ◌∷◌, ◌++◌, map}

@@ -1,5 +1,5 @@
 -- The plan of a job by value: where each net stands, and each track's sum.
-use Rattle.std.specs.Prelude.{ℕ, suc, ◌+◌, ◌-◌, List, [], ◌∷◌, ◌++◌, map, eqb, length, replicate}
+use Rattle.std.specs.Prelude.{ℕ, suc, ◌-◌, List, [], ◌∷◌, ◌++◌, map, eqb, length, replicate}
 use Rattle.std.proofs.Math.Option.{Option, none, some}
 use Rattle.lists.specs.Lists.{first_of}
 use Rattle.board.specs.declared.Net.{Net}

@@ -1,6 +1,6 @@
 // The check of a layout text one byte too long: byte 64,001 is seen.
 #![tactic(auto)]
 
-fn main() {
-    checkfiles::check_files();
+fn main(rt: HostRuntime) {
+    checkfiles::check_files(&rt);
 }

@@ -1,6 +1,6 @@
 // The check where the layout's file is missing: it counts as empty.
 #![tactic(auto)]
 
-fn main() {
-    checkfiles::check_files();
+fn main(rt: HostRuntime) {
+    checkfiles::check_files(&rt);
 }

@@ -1,6 +1,6 @@
 // The check of a layout for a job that is refused.
 #![tactic(auto)]
 
-fn main() {
-    checkfiles::check_files();
+fn main(rt: HostRuntime) {
+    checkfiles::check_files(&rt);
 }

@@ -1,12 +1,12 @@
 // The check of the files board.job and board.lay of the current folder.
 #![tactic(auto)]
 
-ghost use Rattle.io.specs.Counts.{IsPrefixLen};
+ghost use Rattle.std.specs.Counts.{IsPrefixLen};
 ghost use Rattle.files.specs.FileTexts.{ReadText};
 ghost use Rattle.checkfiles.specs.LineOfFiles.{LineOfFiles};
 
 use files::FileText;
-use libc::STDOUT_FILENO;
+use std::rt::Files;
 use verdicts::PrintedLine;
 
 // Two files as they were read, and the line that is printed for them.
@@ -18,14 +18,14 @@ pub struct CheckedFiles {
 }
 
 // Checks the layout of one file for the job of another. The texts come back with the line, so that the contract can say whose verdict it is.
-pub fn checked_files(job_path: &[u8], layout_path: &[u8]) -> CheckedFiles
+pub fn checked_files(rt: &impl Files, job_path: &str, layout_path: &str) -> CheckedFiles
     ensures job { ReadText result.job }
     ensures layout { ReadText result.layout }
     ensures line { LineOfFiles result }
     ensures counts { IsPrefixLen result.line.used result.line.bytes }
 {
-    let job = files::file_text(job_path);
-    let layout = files::file_text(layout_path);
+    let job = files::file_text(rt, job_path);
+    let layout = files::file_text(rt, layout_path);
     let job_bytes = job.bytes;
     let job_used = job.used;
     let layout_bytes = layout.bytes;
@@ -34,10 +34,10 @@ pub fn checked_files(job_path: &[u8], layout_path: &[u8]) -> CheckedFiles
     CheckedFiles { job, layout, line }
 }
 
-// Checks board.lay for board.job, and prints the verdict.
-pub fn check_files() {
-    let checked = checked_files(b"board.job", b"board.lay");
+// Checks board.lay for board.job, and prints the verdict. A failure to print is passed over.
+pub fn check_files(rt: &(impl Files + Print)) {
+    let checked = checked_files(rt, "board.job", "board.lay");
     let line = checked.line;
     let bytes = line.bytes;
-    io::write_all(STDOUT_FILENO, &bytes[..line.used]);
+    let _ = rt.write_all(&bytes[..line.used]);
 }

@@ -3,25 +3,23 @@
 
 ghost use Rattle.std.specs.Prelude.{◌+◌, ◌≤◌, ◌<◌, length};
 
-use libc::{STDIN_FILENO, STDOUT_FILENO};
-
-// Prints the fixed text or the refusal of the job at a place, and returns the place of the next job.
-fn next_text(s: &[u8], from: usize) -> usize
+// Prints the fixed text or the refusal of the job at a place, and returns the place of the next job. A failure to print is passed over.
+fn next_text(rt: &impl Print, s: &[u8], from: usize) -> usize
     requires { from < length s.now }
     ensures { (from < result) × (result ≤ length s.now + 1) }
 {
     let to = texts::text_end(s, from);
     let printed = printing::print_house(&s[from..to]);
     let bytes = printed.bytes;
-    io::write_all(STDOUT_FILENO, &bytes[..printed.used]);
+    let _ = rt.write_all(&bytes[..printed.used]);
     to + 1
 }
 
 // Prints the fixed text or the refusal of each job.
-fn print_texts(s: &[u8]) {
+fn print_texts(rt: &impl Print, s: &[u8]) {
     let mut at = 0;
     while at < s.len() {
-        at = next_text(s, at);
+        at = next_text(rt, s, at);
     }
 }
 
@@ -31,8 +29,8 @@ fn room() -> [u8; 1048576] {
 }
 
 // Prints the fixed text or the refusal of each job on standard input.
-fn main() {
+fn main(rt: HostRuntime) {
     let mut input = room();
-    let n = io::read_full(STDIN_FILENO, &mut input);
-    print_texts(&input[..n]);
+    let n = files::read_full(&mut rt.reader(), &mut input);
+    print_texts(&rt, &input[..n]);
 }

@@ -3,8 +3,6 @@
 
 ghost use Rattle.std.specs.Prelude.{◌+◌, ◌≤◌, ◌<◌, length};
 
-use libc::{STDIN_FILENO, STDOUT_FILENO};
-
 // The place behind the byte that ends a text, or the end of the input.
 fn behind(s: &[u8], to: usize) -> usize
     requires { to ≤ length s.now }
@@ -16,8 +14,8 @@ fn behind(s: &[u8], to: usize) -> usize
     to
 }
 
-// Prints the verdict on the pair at a place, and returns the place of the next pair.
-fn next_verdict(s: &[u8], from: usize) -> usize
+// Prints the verdict on the pair at a place, and returns the place of the next pair. A failure to print is passed over.
+fn next_verdict(rt: &impl Print, s: &[u8], from: usize) -> usize
     requires { from < length s.now }
     ensures { (from < result) × (result ≤ length s.now + 1) }
 {
@@ -26,15 +24,15 @@ fn next_verdict(s: &[u8], from: usize) -> usize
     let end = texts::text_end(s, start);
     let printed = verdicts::print_check(&s[from..to], &s[start..end]);
     let bytes = printed.bytes;
-    io::write_all(STDOUT_FILENO, &bytes[..printed.used]);
+    let _ = rt.write_all(&bytes[..printed.used]);
     end + 1
 }
 
 // Prints the verdict on each pair.
-fn print_layouts(s: &[u8]) {
+fn print_layouts(rt: &impl Print, s: &[u8]) {
     let mut at = 0;
     while at < s.len() {
-        at = next_verdict(s, at);
+        at = next_verdict(rt, s, at);
     }
 }
 
@@ -44,8 +42,8 @@ fn room() -> [u8; 1048576] {
 }
 
 // Prints the verdict on each layout on standard input.
-fn main() {
+fn main(rt: HostRuntime) {
     let mut input = room();
-    let n = io::read_full(STDIN_FILENO, &mut input);
-    print_layouts(&input[..n]);
+    let n = files::read_full(&mut rt.reader(), &mut input);
+    print_layouts(&rt, &input[..n]);
 }

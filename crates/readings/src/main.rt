@@ -3,25 +3,23 @@
 
 ghost use Rattle.std.specs.Prelude.{◌+◌, ◌≤◌, ◌<◌, length};
 
-use libc::{STDIN_FILENO, STDOUT_FILENO};
-
-// Prints what the text at a place is read as, and returns the place of the next text.
-fn next_reading(s: &[u8], from: usize) -> usize
+// Prints what the text at a place is read as, and returns the place of the next text. A failure to print is passed over.
+fn next_reading(rt: &impl Print, s: &[u8], from: usize) -> usize
     requires { from < length s.now }
     ensures { (from < result) × (result ≤ length s.now + 1) }
 {
     let to = texts::text_end(s, from);
     let mut line = [0u8; 32];
     let used = reader::report::report(&s[from..to], &mut line);
-    io::write_all(STDOUT_FILENO, &line[..used]);
+    let _ = rt.write_all(&line[..used]);
     to + 1
 }
 
 // Prints what each text is read as.
-fn print_readings(s: &[u8]) {
+fn print_readings(rt: &impl Print, s: &[u8]) {
     let mut at = 0;
     while at < s.len() {
-        at = next_reading(s, at);
+        at = next_reading(rt, s, at);
     }
 }
 
@@ -31,8 +29,8 @@ fn room() -> [u8; 1048576] {
 }
 
 // Prints the outcome of each text on standard input.
-fn main() {
+fn main(rt: HostRuntime) {
     let mut input = room();
-    let n = io::read_full(STDIN_FILENO, &mut input);
-    print_readings(&input[..n]);
+    let n = files::read_full(&mut rt.reader(), &mut input);
+    print_readings(&rt, &input[..n]);
 }

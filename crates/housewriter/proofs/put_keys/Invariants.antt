@@ -1,3 +1,4 @@
+-- Before each turn of the loop of `housewriter::put_keys` the lines of the blocks passed are written.
 use Rattle.text.specs.Runs.{Going}
 use Rattle.housewriter.proofs.Parts.{keysOn}
 use Rattle.housewriter.proofs.put_keys.Given as goal

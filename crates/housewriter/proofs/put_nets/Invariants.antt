@@ -1,3 +1,4 @@
+-- Before each turn of the loop of `housewriter::put_nets` the lines of the nets passed are written.
 use Rattle.text.specs.Runs.{Going}
 use Rattle.housewriter.proofs.Parts.{netsOn}
 use Rattle.housewriter.proofs.put_nets.Given as goal

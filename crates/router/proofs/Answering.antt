@@ -27,13 +27,15 @@ use Rattle.router.specs.LayoutLength.{LayoutLength}
 -- all that route promises of its answer and of the buffer afterwards
 abbrev pub Promised : List ℕ → List ℕ → TextAnswer → List ℕ → Type 0
 Promised file before r after =
-    (r ≡ textAnswer routeText (readJob file) (length before)) ×
-    ((answerValues r ≡ documentValues routeText (readJob file) (length before)) ×
-    (RightFor LayoutLength file (length before) r ×
-    ((after ≡ bufferAfter routeText (readJob file) before) ×
-    (OfWritten (λ j text. ShortestText j (plan_of j) text) (readJob file) r after ×
-    (OfWritten (λ j text. Sound j text) (readJob file) r after ×
-    OfWritten (λ j text. UnbeatenText j text) (readJob file) r after)))))
+    record {
+      answer : r ≡ textAnswer routeText (readJob file) (length before);
+      values : answerValues r ≡ documentValues routeText (readJob file) (length before);
+      right : RightFor LayoutLength file (length before) r;
+      buffer : after ≡ bufferAfter routeText (readJob file) before;
+      shortest : OfWritten (λ j text. ShortestText j (plan_of j) text) (readJob file) r after;
+      sound : OfWritten (λ j text. Sound j text) (readJob file) r after;
+      unbeaten : OfWritten (λ j text. UnbeatenText j text) (readJob file) r after;
+    }
 
 -- the text that route writes is a layout of the job
 layout-length : (job : Job) → AcceptedJob job → LayoutLength job (length (routeText job))
@@ -41,25 +43,16 @@ layout-length job a = let d = route-demanded job a (routeText job) refl in (rout
 
 pub promised : (file before : List ℕ) {r : TextAnswer} {after : List ℕ} → Given routeText file before r after → Promised file before r after
 promised file before g =
-    let held : (P : Job → List ℕ → Type 0) → ((job : Job) → AcceptedJob job → P job (routeText job)) → OfWritten P (readJob file) _ _ = held-given routeText file before g in (
-      g.0,
-      (
-        values-given routeText file before g,
-        (
-          right-given routeText file before g LayoutLength route-length layout-length,
-          (
-            g.1,
-            (
-              held (λ j text. ShortestText j (plan_of j) text) (λ j a. (route-demanded j a (routeText j) refl).0),
-              (
-                held (λ j text. Sound j text) (λ j a. (route-demanded j a (routeText j) refl).1.0),
-                held (λ j text. UnbeatenText j text) (λ j a. (route-demanded j a (routeText j) refl).1.1),
-              ),
-            ),
-          ),
-        ),
-      ),
-    )
+    let held : (P : Job → List ℕ → Type 0) → ((job : Job) → AcceptedJob job → P job (routeText job)) → OfWritten P (readJob file) _ _ = held-given routeText file before g in
+    record {
+      answer = g.0;
+      values = values-given routeText file before g;
+      right = right-given routeText file before g LayoutLength route-length layout-length;
+      buffer = g.1;
+      shortest = held (λ j text. ShortestText j (plan_of j) text) (λ j a. (route-demanded j a (routeText j) refl).0);
+      sound = held (λ j text. Sound j text) (λ j a. (route-demanded j a (routeText j) refl).1.0);
+      unbeaten = held (λ j text. UnbeatenText j text) (λ j a. (route-demanded j a (routeText j) refl).1.1);
+    }
 
 -- the plan of an accepted job can be drawn, its text is the one that route writes, and that is short
 module _ (stored : StoredJob) (a : AcceptedStored stored) (plan : JobPlan) (p : plan ≡ jobPlanOf (job_of stored)) where

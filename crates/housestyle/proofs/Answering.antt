@@ -17,24 +17,27 @@ use Rattle.answers.proofs.Answering.{Given, values-given, right-given, held-give
 -- all that house promises of its answer and of the buffer afterwards
 abbrev pub Promised : List ℕ → List ℕ → TextAnswer → List ℕ → Type 0
 Promised file before r after =
-    (r ≡ textAnswer houseText (readJob file) (length before)) ×
-    ((answerValues r ≡ documentValues houseText (readJob file) (length before)) ×
-    (RightFor FixedLength file (length before) r ×
-    ((after ≡ bufferAfter houseText (readJob file) before) ×
-    (OfWritten IsFixed (readJob file) r after ×
-    (OfWritten ReadsBack (readJob file) r after ×
-    (OfWritten OneText (readJob file) r after ×
-    OfWritten (λ j text. FixedAgain text) (readJob file) r after))))))
+    record {
+      answer : r ≡ textAnswer houseText (readJob file) (length before);
+      values : answerValues r ≡ documentValues houseText (readJob file) (length before);
+      right : RightFor FixedLength file (length before) r;
+      buffer : after ≡ bufferAfter houseText (readJob file) before;
+      fixed : OfWritten IsFixed (readJob file) r after;
+      read_back : OfWritten ReadsBack (readJob file) r after;
+      one_text : OfWritten OneText (readJob file) r after;
+      again : OfWritten (λ j text. FixedAgain text) (readJob file) r after;
+    }
 
 pub promised : (file before : List ℕ) {r : TextAnswer} {after : List ℕ} → Given houseText file before r after → Promised file before r after
 promised file before g =
-    let held : (P : Job → List ℕ → Type 0) → ((job : Job) → AcceptedJob job → P job (houseText job)) → OfWritten P (readJob file) _ _ = held-given houseText file before g in (
-      g.0,
-      (
-        values-given houseText file before g,
-        (
-          right-given houseText file before g FixedLength house-short (λ j a. refl),
-          (g.1, (held IsFixed (λ j a. refl), (held ReadsBack house-back, (held OneText house-one, held (λ j text. FixedAgain text) house-again)))),
-        ),
-      ),
-    )
+    let held : (P : Job → List ℕ → Type 0) → ((job : Job) → AcceptedJob job → P job (houseText job)) → OfWritten P (readJob file) _ _ = held-given houseText file before g in
+    record {
+      answer = g.0;
+      values = values-given houseText file before g;
+      right = right-given houseText file before g FixedLength house-short (λ j a. refl);
+      buffer = g.1;
+      fixed = held IsFixed (λ j a. refl);
+      read_back = held ReadsBack house-back;
+      one_text = held OneText house-one;
+      again = held (λ j text. FixedAgain text) house-again;
+    }

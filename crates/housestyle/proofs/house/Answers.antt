@@ -13,17 +13,7 @@ returns-then-number_of-ne0 c =
     let file = c.args.job.now in
     let before = c.args.out.now in
     let e = given-refused file c.read-answer.result c.number_of.result c.read-answer.ensures.answer c.number_of.ensures c.if-number_of-ne0.true in
-    let p = promised file before (refused-given houseText file before _ e) in
-    record {
-      answer = p.0;
-      values = p.1.0;
-      right = p.1.1.0;
-      buffer = p.1.1.1.0;
-      fixed = p.1.1.1.1.0;
-      read_back = p.1.1.1.1.1.0;
-      one_text = p.1.1.1.1.1.1.0;
-      again = p.1.1.1.1.1.1.1;
-    }
+    promised file before (refused-given houseText file before _ e)
 
 -- behind the test of the number: the job by value is an accepted one, and the text is read as it
 pub write_house-needed-requires : goal.write_house-needed-requires
@@ -37,14 +27,4 @@ returns c =
     let before = c.args.out.now in
     let e = given-read file c.read-answer.result c.number_of.result c.read-answer.ensures.answer c.number_of.ensures c.if-number_of-ne0.false in
     let w = c.put_answer.ensures in
-    let p = promised file before (accepted-given houseText file before _ e (start-written c.write_house-needed.ensures) (w.answer, w.buffer)) in
-    record {
-      answer = p.0;
-      values = p.1.0;
-      right = p.1.1.0;
-      buffer = p.1.1.1.0;
-      fixed = p.1.1.1.1.0;
-      read_back = p.1.1.1.1.1.0;
-      one_text = p.1.1.1.1.1.1.0;
-      again = p.1.1.1.1.1.1.1;
-    }
+    promised file before (accepted-given houseText file before _ e (start-written c.write_house-needed.ensures) (w.answer, w.buffer))

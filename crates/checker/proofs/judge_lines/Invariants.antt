@@ -1,0 +1,12 @@
+-- Before each turn of the loop of `checker::judge_lines` the lines that are left decide, and each turn goes on by a line.
+use Prim.Native.Nat.{◌-◌}
+use lib.ListN.{length}
+use Rattle.board.specs.Stored.{job_of}
+use Rattle.checker.proofs.LayoutLeft.{LayoutLeft}
+use Rattle.checker.proofs.judge_lines.Given as goal
+
+abbrev pub invariant-loop-form : goal.invariant-loop-form
+invariant-loop-form l = LayoutLeft (job_of l.job) l.text l.m l.stands l.map.words l.place
+
+abbrev pub decreases-loop-form : goal.decreases-loop-form
+decreases-loop-form l = length l.text - l.place.at

@@ -45,40 +45,47 @@ module _ (Length : Job → ℕ → Type 0) (file : List ℕ) (room : ℕ) (after
 -- of route
 pub reply-given : (file before : List ℕ) (a : TextAnswer) (after : List ℕ) → Promised file before a after → (n l b : ℕ) →
     n ≡ (answerValues a).number → l ≡ (answerValues a).line → b ≡ (answerValues a).bytes →
-    RepliesWith (textAnswer routeText (readJob file) (length before)) n l b ×
-    (((y : TextAnswer) × (RepliesWith y n l b × RightFor LayoutLength file (length before) y)) ×
-    ((after ≡ bufferAfter routeText (readJob file) before) ×
-    ((n ≡ 0 → OfAccepted (λ j. ShortestText j (plan_of j) (take b after)) (readJob file)) ×
-    ((n ≡ 0 → OfAccepted (λ j. Sound j (take b after)) (readJob file)) ×
-    (n ≡ 0 → OfAccepted (λ j. UnbeatenText j (take b after)) (readJob file))))))
+    record {
+      answer : RepliesWith (textAnswer routeText (readJob file) (length before)) n l b;
+      right : (y : TextAnswer) × (RepliesWith y n l b × RightFor LayoutLength file (length before) y);
+      buffer : after ≡ bufferAfter routeText (readJob file) before;
+      shortest : n ≡ 0 → OfAccepted (λ j. ShortestText j (plan_of j) (take b after)) (readJob file);
+      sound : n ≡ 0 → OfAccepted (λ j. Sound j (take b after)) (readJob file);
+      unbeaten : n ≡ 0 → OfAccepted (λ j. UnbeatenText j (take b after)) (readJob file);
+    }
 reply-given file before a after p n l b e f g =
-    let w = p.1.1.1 in
-    let told = replied LayoutLength file (length before) after a p.1.1.0 n l b e f g _ p.0 in
-    let out = handed LayoutLength file (length before) after a p.1.1.0 n l b e f g in (
-      told.0,
-      (
-        told.1,
-        (w.0, (out (λ j text. ShortestText j (plan_of j) text) w.1.0, (out (λ j text. Sound j text) w.1.1.0, out (λ j text. UnbeatenText j text) w.1.1.1))),
-      ),
-    )
+    let told = replied LayoutLength file (length before) after a p.right n l b e f g _ p.answer in
+    let out = handed LayoutLength file (length before) after a p.right n l b e f g in
+    record {
+      answer = told.0;
+      right = told.1;
+      buffer = p.buffer;
+      shortest = out (λ j text. ShortestText j (plan_of j) text) p.shortest;
+      sound = out (λ j text. Sound j text) p.sound;
+      unbeaten = out (λ j text. UnbeatenText j text) p.unbeaten;
+    }
 
 -- of house
 pub house-given : (file before : List ℕ) (a : TextAnswer) (after : List ℕ) → HousePromised file before a after → (n l b : ℕ) →
     n ≡ (answerValues a).number → l ≡ (answerValues a).line → b ≡ (answerValues a).bytes →
-    RepliesWith (textAnswer houseText (readJob file) (length before)) n l b ×
-    (((y : TextAnswer) × (RepliesWith y n l b × RightFor FixedLength file (length before) y)) ×
-    ((after ≡ bufferAfter houseText (readJob file) before) ×
-    ((n ≡ 0 → OfAccepted (λ j. IsFixed j (take b after)) (readJob file)) ×
-    ((n ≡ 0 → OfAccepted (λ j. ReadsBack j (take b after)) (readJob file)) ×
-    ((n ≡ 0 → OfAccepted (λ j. OneText j (take b after)) (readJob file)) ×
-    (n ≡ 0 → OfAccepted (λ j. FixedAgain (take b after)) (readJob file)))))))
+    record {
+      answer : RepliesWith (textAnswer houseText (readJob file) (length before)) n l b;
+      right : (y : TextAnswer) × (RepliesWith y n l b × RightFor FixedLength file (length before) y);
+      buffer : after ≡ bufferAfter houseText (readJob file) before;
+      fixed : n ≡ 0 → OfAccepted (λ j. IsFixed j (take b after)) (readJob file);
+      read_back : n ≡ 0 → OfAccepted (λ j. ReadsBack j (take b after)) (readJob file);
+      one_text : n ≡ 0 → OfAccepted (λ j. OneText j (take b after)) (readJob file);
+      again : n ≡ 0 → OfAccepted (λ j. FixedAgain (take b after)) (readJob file);
+    }
 house-given file before a after p n l b e f g =
-    let w = p.1.1.1 in
-    let told = replied FixedLength file (length before) after a p.1.1.0 n l b e f g _ p.0 in
-    let out = handed FixedLength file (length before) after a p.1.1.0 n l b e f g in (
-      told.0,
-      (
-        told.1,
-        (w.0, (out IsFixed w.1.0, (out ReadsBack w.1.1.0, (out OneText w.1.1.1.0, out (λ j text. FixedAgain text) w.1.1.1.1)))),
-      ),
-    )
+    let told = replied FixedLength file (length before) after a p.right n l b e f g _ p.answer in
+    let out = handed FixedLength file (length before) after a p.right n l b e f g in
+    record {
+      answer = told.0;
+      right = told.1;
+      buffer = p.buffer;
+      fixed = out IsFixed p.fixed;
+      read_back = out ReadsBack p.read_back;
+      one_text = out OneText p.one_text;
+      again = out (λ j text. FixedAgain text) p.again;
+    }

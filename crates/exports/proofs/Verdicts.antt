@@ -19,7 +19,10 @@ one-if-no b e = sym (ap oneIf e)
 
 pub check-reply-given : (job layout : List ℕ) (a : CheckAnswer) → a ≡ checkAnswer (readJob job) layout → RightVerdict job layout a →
     (n l k : ℕ) (b : Bool) → n ≡ (checkValues a).number → l ≡ (checkValues a).line → b ≡ (checkValues a).broken → k ≡ oneIf b →
-    CheckRepliesWith (checkAnswer (readJob job) layout) n l k × ((y : CheckAnswer) × (CheckRepliesWith y n l k × RightVerdict job layout y))
+    record {
+      answer : CheckRepliesWith (checkAnswer (readJob job) layout) n l k;
+      right : (y : CheckAnswer) × (CheckRepliesWith y n l k × RightVerdict job layout y);
+    }
 check-reply-given job layout a q r n l k b e f g h =
     let w : CheckRepliesWith a n l k = record { number_is = e; line-is = f; broken-is = h ∙ ap oneIf g } in
-    (subst (λ (y : CheckAnswer). CheckRepliesWith y n l k) q w, (a, (w, r)))
+    record { answer = subst (λ (y : CheckAnswer). CheckRepliesWith y n l k) q w; right = (a, (w, r)) }

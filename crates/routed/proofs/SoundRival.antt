@@ -48,7 +48,7 @@ module _ (job : Job) (rise : EachPair (λ a b. a.number < b.number) job.nets) wh
 sum-at : (job : Job) (earlier : List ℕ) (t : ℕ) (trs : List DrawnTrack) → SoundTracks job earlier t trs → (i : ℕ) → i < length trs →
     wiresSum job (get_or trs i noTrack).wires ≡ (get_or trs i noTrack).sum
 sum-at job earlier t [] s i h = absurd (omega arith)
-sum-at job earlier t (tr ∷ trs) s zero h = s.0.sum_is_lem
+sum-at job earlier t (tr ∷ trs) s zero h = s.0.sum_is
 sum-at job earlier t (tr ∷ trs) s (suc i) h = sum-at job (earlier ++ wireNumbers tr.wires) (suc t) trs s.1 i (omega arith)
 
 module _ (job : Job) (a : AcceptedJob job) (text : List ℕ) (s : Sound job text) where

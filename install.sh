@@ -12,10 +12,12 @@ prefix=${1:-$here}
 mkdir -p "$prefix/bin"
 prefix=$(cd "$prefix" && pwd)
 cd "$here"
-rt check route check_layout house_job
-cp target/bin/route "$prefix/bin/route"
-cp target/bin/check_layout "$prefix/bin/check"
-cp target/bin/house_job "$prefix/bin/house"
+for crate in route check_layout house_job; do
+    (cd "crates/$crate" && rt run < "$here/examples/board.job" > /dev/null)
+done
+cp crates/route/out/route "$prefix/bin/route"
+cp crates/check_layout/out/check_layout "$prefix/bin/check"
+cp crates/house_job/out/house_job "$prefix/bin/house"
 echo "installed $prefix/bin/route, $prefix/bin/check and $prefix/bin/house"
 echo "the layout of the example board, examples/board.job, the verdict on it, and the board's fixed text:"
 folder=$(mktemp -d)

@@ -3,8 +3,8 @@
 # level of bench/level in a constant (bench/cases.sh says what the level is).
 cd "$(dirname "$0")/.."
 mkdir -p target/bench
-rt staticlib exports > target/bench/staticlib.log 2>&1 || { cat target/bench/staticlib.log >&2; exit 1; }
-rustc -O --edition 2021 --crate-type rlib --crate-name hankuribo -L target/staticlib -o target/bench/libhankuribo.rlib bindings/rust/hankuribo.rs
+(cd crates/exports && rt lib) > target/bench/staticlib.log 2>&1 || { cat target/bench/staticlib.log >&2; exit 1; }
+rustc -O --edition 2021 --crate-type rlib --crate-name hankuribo -L crates/exports/out -o target/bench/libhankuribo.rlib bindings/rust/hankuribo.rs
 {
     echo "pub const LEVEL: usize = $(cat bench/level);"
     for source in "$second"/src/*.rs; do
@@ -20,5 +20,5 @@ rustc -O -A warnings --crate-type rlib --crate-name second_router -o target/benc
 # compiles bench/$1.rs over both libraries, to target/bench/$2
 build() {
     rustc -O --edition 2021 -o "target/bench/$2" "bench/$1.rs" --extern hankuribo=target/bench/libhankuribo.rlib \
-        --extern second_router=target/bench/libsecond_router.rlib -L target/staticlib
+        --extern second_router=target/bench/libsecond_router.rlib -L crates/exports/out
 }

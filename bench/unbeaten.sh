@@ -23,7 +23,7 @@ work=target/bench
 LEVEL=$(cat bench/level)
 export LEVEL
 mkdir -p "$work"
-rt check route > "$work/route.log" 2>&1 || { cat "$work/route.log" >&2; exit 1; }
+(cd crates/route && rt run < ../../examples/board.job) > "$work/route.log" 2>&1 || { cat "$work/route.log" >&2; exit 1; }
 rustc -O -A warnings -o "$work/second" "$second/src/main.rs"
 
 # ends the program and shows the case; $1 says what is wrong
@@ -42,7 +42,7 @@ wires=0
 try_board() {
     "$work/second" gen "$seed" "$family" > "$work/job"
     if ! grep -q '(net\( [0-9]*\)\{6\})' "$work/job"; then return; fi
-    target/bin/route < "$work/job" > "$work/layout"
+    crates/route/out/route < "$work/job" > "$work/layout"
     "$work/second" check "$work/job" "$work/layout" > "$work/judged"
     if [ "$(cat "$work/judged")" != "(sound)" ]; then fault "not sound"; fi
     if ! "$work/second" unbeaten "$work/job" "$work/layout" > "$work/judged" 2>&1; then

@@ -9,12 +9,13 @@
 # rt, cc and rustc, and writes below target/bindings/ only.
 set -eu
 cd "$(dirname "$0")/.."
-rt staticlib exports
+(cd crates/exports && rt lib > /dev/null)
+library=crates/exports/out
 work=target/bindings
 mkdir -p "$work"
-cc -std=c99 -Wall -Wextra -pedantic -Werror -O2 -o "$work/in_c" bindings/c/example.c -L target/staticlib -lexports
-rustc -O --edition 2021 --crate-type rlib --crate-name hankuribo -L target/staticlib -o "$work/libhankuribo.rlib" bindings/rust/hankuribo.rs
-rustc -O --edition 2021 --extern "hankuribo=$work/libhankuribo.rlib" -L target/staticlib -o "$work/in_rust" bindings/rust/example.rs
+cc -std=c99 -Wall -Wextra -pedantic -Werror -O2 -o "$work/in_c" bindings/c/example.c -L "$library" -lexports
+rustc -O --edition 2021 --crate-type rlib --crate-name hankuribo -L "$library" -o "$work/libhankuribo.rlib" bindings/rust/hankuribo.rs
+rustc -O --edition 2021 --extern "hankuribo=$work/libhankuribo.rlib" -L "$library" -o "$work/in_rust" bindings/rust/example.rs
 
 cp examples/board.job "$work/board.job"
 { cat examples/board.job crates/route/stdout; echo "(sound)"; } > "$work/board.out"

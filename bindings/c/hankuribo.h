@@ -1,6 +1,6 @@
 /* Hankuribo, a verified channel router: route a job, check a layout, write a job in house style.
  *
- * `rt staticlib exports` builds target/staticlib/libexports.a, which has these functions; link it with -lexports. They are proved: for
+ * `rt lib` in crates/exports builds out/libexports.a there, which has these functions; link it with -lexports. They are proved: for
  * every content and length of the texts they end with the answer that the documents give. They hold no state, allocate nothing and print
  * nothing, so several threads may call them at once. Give a thread 2 MB of stack (less than 1 MB was used when measured).
  *

@@ -1,13 +1,13 @@
 //! Hankuribo, a verified channel router: route a job, check a layout, write a job in house style.
 //!
-//! Safe functions over the static library that `rt staticlib exports` builds, target/staticlib/libexports.a. What they call is proved: for
+//! Safe functions over the static library that `rt lib` in crates/exports builds, crates/exports/out/libexports.a. What they call is proved: for
 //! every content and length of the texts it ends with the answer that the documents give. What is not proved, and stands here: that a slice
 //! is handed over as its pointer and length, and that a number is given its name. The functions hold no state and allocate nothing but what
 //! `route_to_vec` and `house_to_vec` return. Give a thread that calls them 2 MB of stack, which is Rust's default (less than 1 MB was used
 //! when measured).
 //!
 //! Use this file as a module (`#[path = ".."] mod hankuribo;`) or as a crate (`rustc --crate-type rlib`, or Cargo.toml beside it), and give
-//! the linker the folder of the library, `-L target/staticlib`.
+//! the linker the folder of the library, `-L crates/exports/out`.
 
 use std::fmt;
 

@@ -41,12 +41,9 @@ def other_crate(edit):
 
 
 def copy_to(folder):
-    """A copy of the crates and of what is proved."""
+    """A copy of the crates. `rt` takes what is proved of the same files on this machine from where it was proved."""
     shutil.copy(root / 'crates.txt', folder)
-    shutil.copytree(root / 'crates', folder / 'crates', ignore=shutil.ignore_patterns('must-fail', 'weaker'))
-    for kept in ('rlib', 'stamp', 'log'):
-        if (root / 'target' / kept).is_dir():
-            shutil.copytree(root / 'target' / kept, folder / 'target' / kept)
+    shutil.copytree(root / 'crates', folder / 'crates', ignore=shutil.ignore_patterns('must-fail', 'weaker', 'out'))
 
 
 def apply(edit, crate):
@@ -61,35 +58,33 @@ def apply(edit, crate):
         path.write_text(text.replace(old, new))
 
 
-def first_error(log, folder):
-    """The first error that is not about a declaration refused before it, and how the two sides differ, where it says so. Where the prover
-    makes the proof itself, what it could not show."""
-    if not log.is_file():
-        return ['refused, and there is no log']
+def first_error(said):
+    """The first error of a check that is not about a declaration refused before it, and how the two sides differ, where it says so. Where the
+    prover makes the proof itself, what it could not show."""
     found = []
-    for line in log.read_text(errors='replace').split('\n'):
-        line = line.replace(str(folder) + '/', '')[:400]
+    for line in said.split('\n'):
+        line = line[:400]
         if found:
             if line.startswith('  computed as far as they go'):
                 found.append(line)
             if not line.startswith(' ') or len(found) == 2:
                 break
-        elif ' error: ' in line and 'was not admitted' not in line or re.match(r'note: .* it is not proved', line):
+        elif ' error: ' in line and not re.search('was not admitted|was rejected', line) or re.match(r'note: .* it is not proved', line):
             found.append(line)
-    return found or ['refused, and the log names no error']
+    return found or ['refused, and no error is named']
 
 
 def refused_in(edit, other, folder):
     """Proves `other` over a copy with the edit; what refused it, or None."""
     copy_to(folder)
     apply(edit, folder / 'crates' / edit.parent.parent.name)
-    said = subprocess.run(['rt', 'check', other], cwd=folder, stdout=subprocess.PIPE, stderr=subprocess.STDOUT, text=True, env={**os.environ, 'RT_JOBS': '1'})
+    said = subprocess.run(['rt', 'check'], cwd=folder / 'crates' / other, stdout=subprocess.PIPE, stderr=subprocess.STDOUT, text=True)
     if said.returncode == 0:
         return None
-    crate = re.search(r'^rt: (\w+) NOT PROVED \(exit 1', said.stdout, re.M)
-    if not crate or crate[1] != other:
-        raise BadEdit(f'{other} was not reached: ' + (f'{crate[1]} refuses it' if crate else said.stdout.strip().split('\n')[-1]))
-    return first_error(folder / 'target/log' / (other + '.say'), folder)
+    below = re.search(r'^rt: the library (\w+) did not build', said.stdout, re.M)
+    if below:
+        raise BadEdit(f'{other} was not reached: {below[1]} refuses it')
+    return first_error(said.stdout)
 
 
 def tried_above(edit):
@@ -116,15 +111,15 @@ def tried_alone(edits):
         names = sorted({edit.parent.parent.name for edit in edits})
         said = subprocess.run(['rt', 'must-fail', *names], cwd=folder, stdout=subprocess.PIPE, stderr=subprocess.STDOUT, text=True).stdout
         for edit in edits:
-            name, label = edit.parent.parent.name, edit.stem
-            at = folder / 'target/must-fail' / name / label
-            bad = re.search(rf'^rt: must-fail {name}/{label}: BAD EDIT: (.*)', said, re.M)
-            if bad:
-                answers[edit] = BadEdit(bad[1])
-            elif not at.with_suffix('.res').is_file():
+            told = re.search(rf'^rt: must-fail {edit.parent.parent.name}/{edit.name}: (.*)', said, re.M)
+            if not told:
                 answers[edit] = BadEdit('it was not tried: ' + said.strip().split('\n')[-1])
+            elif told[1].startswith('refused'):
+                answers[edit] = [told[1]]
+            elif told[1].startswith('NOT REFUSED'):
+                answers[edit] = None
             else:
-                answers[edit] = first_error(at / '.log', at) if at.with_suffix('.res').read_text().strip() == 'refused' else None
+                answers[edit] = BadEdit(told[1])
     finally:
         shutil.rmtree(folder)
     return answers
@@ -156,7 +151,7 @@ def main():
             print(f'{name}: BAD EDIT: {answer}')
         else:
             refused += 1
-            print(f'{name}: {edit.read_text().split(chr(10))[0]}', *('    ' + line for line in answer), sep='\n')
+            print(f'{name}: {edit.read_text().split(chr(10))[0].removeprefix("-- ")}', *('    ' + line for line in answer), sep='\n')
     print(f'{refused} of {len(edits)} refused')
     sys.exit(refused != len(edits))
 

@@ -31,10 +31,10 @@ crates = root / 'crates'
 NAME = r"[^\W\d][\w·'’\-]*"
 END = r"(?![\w·'’\-])"
 
-sources = {path: path.read_text() for end in ('antt', 'rt') for path in crates.rglob('*.' + end)}
+sources = {path: path.read_text() for end in ('antt', 'rt') for path in crates.rglob('*.' + end) if 'out' not in path.relative_to(crates).parts}
 edits = {path.relative_to(crates).with_suffix('').as_posix() for path in crates.rglob('*.edit')}
 files = [path for folder in ('bench', 'bindings', 'crates', 'docs', 'examples') for path in (root / folder).rglob('*')]
-names = {name for path in files if path.suffix != '.edit' for name in (path.name, path.stem)}
+names = {name for path in files if path.suffix != '.edit' and 'out' not in path.parts for name in (path.name, path.stem)}
 
 
 def known_words():

@@ -8,15 +8,13 @@ ghost use Rattle.judging.specs.Values.{isNumbered};
 use board::StoredJob;
 
 // The numbers of the job's nets, by index.
-pub fn numbers_of(job: StoredJob) -> [usize; 512]
-    requires { AcceptedStored job }
-    ensures { result ≡ padded 0 (map (λ n. n.number) (job_of job).nets) }
+pub fn numbers_of(job: &StoredJob) -> [usize; 512]
+    requires { AcceptedStored job.now }
+    ensures { result ≡ padded 0 (map (λ n. n.number) (job_of job.now).nets) }
 {
-    let nnets = job.nnets;
     let mut numbers = [0usize; 512];
-    for i in 0..nnets {
-        let net = job.nets[i];
-        numbers[i] = net.number;
+    for i in 0..job.nnets {
+        numbers[i] = job.nets[i].number;
     }
     numbers
 }

@@ -31,9 +31,9 @@ pub struct NetTops {
 }
 
 // Whether any block is on the track.
-pub fn has_blocks(job: StoredJob, track: Track) -> bool
-    requires { AcceptedStored job }
-    ensures { result ≡ hasBlocks (job_of job) track.0 }
+pub fn has_blocks(job: &StoredJob, track: Track) -> bool
+    requires { AcceptedStored job.now }
+    ensures { result ≡ hasBlocks (job_of job.now) track.0 }
 {
     let nblocks = job.nblocks;
     for i in 0..nblocks {
@@ -46,9 +46,9 @@ pub fn has_blocks(job: StoredJob, track: Track) -> bool
 }
 
 // The blocked rows of a track.
-pub fn block_map(job: StoredJob, track: Track) -> BlockMap
-    requires { AcceptedStored job }
-    ensures { MapOf (job_of job) track.0 result.words }
+pub fn block_map(job: &StoredJob, track: Track) -> BlockMap
+    requires { AcceptedStored job.now }
+    ensures { MapOf (job_of job.now) track.0 result.words }
 {
     let nblocks = job.nblocks;
     let mut map = blockmap::no_rows();
@@ -60,9 +60,9 @@ pub fn block_map(job: StoredJob, track: Track) -> BlockMap
 }
 
 // For each row, at index row − 1, the index of the net whose left pin is there, 512 if there is none.
-fn nets_by_left(job: StoredJob) -> [usize; 1024]
-    requires { AcceptedStored job }
-    ensures { (row : ℕ) → 1 ≤ row → row ≤ 1024 → get_or result (row - 1) 0 ≡ indexFrom (λ n. eqb n.left.0 row) 0 (job_of job).nets }
+fn nets_by_left(job: &StoredJob) -> [usize; 1024]
+    requires { AcceptedStored job.now }
+    ensures { (row : ℕ) → 1 ≤ row → row ≤ 1024 → get_or result (row - 1) 0 ≡ indexFrom (λ n. eqb n.left.0 row) 0 (job_of job.now).nets }
 {
     let nnets = job.nnets;
     let mut by_left = [512usize; 1024];
@@ -75,9 +75,9 @@ fn nets_by_left(job: StoredJob) -> [usize; 1024]
 }
 
 // For each net, the index of the net that precedes it, 512 if there is none: worked out once a job, so that eligibility is a look-up.
-pub fn preceding(job: StoredJob) -> [usize; 512]
-    requires { AcceptedStored job }
-    ensures { result ≡ precedingOf (job_of job) }
+pub fn preceding(job: &StoredJob) -> [usize; 512]
+    requires { AcceptedStored job.now }
+    ensures { result ≡ precedingOf (job_of job.now) }
 {
     let nnets = job.nnets;
     let by_left = nets_by_left(job);

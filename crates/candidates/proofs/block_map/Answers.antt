@@ -1,25 +1,27 @@
 -- `candidates::block_map` meets its contract: before each turn of the loop the rows set are those that the blocks passed close. Assumes nothing.
+use mathlib.Core.Path.{◌≡◌}
 use native.Mathlib.Omega.{arith}
+use lib.ListN.{length}
+use borrow.Author.Rules.{rules}
 use Rattle.board.specs.Stored.{no_block}
-use Rattle.candidates.proofs.ArraySizes.{block_size}
 use Rattle.candidates.proofs.TrackBlocks.{map-none, map_more, map-all, block-range}
 use Rattle.candidates.proofs.block_map.Goals as goal
 
 pub loop-i-init : goal.loop-i-init
-loop-i-init c = map-none c.no_rows-map.result.words c.args.track.0 c.args.job.blocks c.no_rows-map.ensures.1
+loop-i-init c = map-none c.no_rows-map.result.words c.args.track.0 c.args.job.now.blocks c.no_rows-map.ensures.1
 
 pub with_block_on-map-requires : goal.with_block_on-map-requires
 with_block_on-map-requires c =
-    let r = block-range c.args.job c.loop-i.i c.requires (block_size c.args.job c.well_formed.0) (omega arith) in
+    let r = block-range c.args.job.now c.loop-i.i c.requires (search rules) (omega arith) in
     let h = c.requires.accepted.board-range in
     (r.first_range, r.in_order, omega arith)
 
 pub loop-i-preserved : goal.loop-i-preserved
 loop-i-preserved c =
-    let job = c.args.job in
-    let size = block_size job c.well_formed.0 in
+    let job = c.args.job.now in
+    let size : length job.blocks ≡ 256 = search rules in
     let room = c.requires.blocks-room in
     map_more c.loop-i.map.words c.with_block_on-map.result.words c.args.track.0 job.blocks c.loop-i.i no_block (omega arith) c.loop-i.invariant c.with_block_on-map.ensures
 
 pub returns : goal.returns
-returns c = map-all c.loop-i.map.words c.args.job c.args.track.0 c.loop-i.i (omega arith) (omega arith) c.loop-i.invariant
+returns c = map-all c.loop-i.map.words c.args.job.now c.args.track.0 c.loop-i.i (omega arith) (omega arith) c.loop-i.invariant

@@ -79,16 +79,16 @@ fn finish(m: LinesJudged, line: usize) -> CheckAnswer
 }
 
 // The verdict on a layout text, line by line, where the numbers of the job's nets and the net that precedes each net are worked out. The
-// job goes by value where the track changes; for any other line only its net does.
+// job is lent; of it only the net of a line goes by value.
 fn judge_lines<'a>(
-    job: StoredJob,
+    job: &StoredJob,
     numbers: &'a [usize; 512],
     before: &'a [usize; 512],
     text: &[u8],
 ) -> CheckAnswer
-    requires net_tables { NetTables job numbers.now before.now }
+    requires net_tables { NetTables job.now numbers.now before.now }
     requires text_len_bound { length text.now ≤ 64000 }
-    ensures { result ≡ verdictAnswer (judge (job_of job) text.now) }
+    ensures { result ≡ verdictAnswer (judge (job_of job.now) text.now) }
 {
     let board = job.board;
     let count = job.nnets;
@@ -132,8 +132,7 @@ pub fn check(job: &[u8], layout: &[u8]) -> CheckAnswer
     if 64000 < layout.len() {
         return CheckAnswer::LayoutTooLong;
     }
-    let stored = answer.job;
-    let numbers = judging::nets::numbers_of(stored);
-    let before = candidates::preceding(stored);
-    judge_lines(stored, &numbers, &before, layout)
+    let numbers = judging::nets::numbers_of(&answer.job);
+    let before = candidates::preceding(&answer.job);
+    judge_lines(&answer.job, &numbers, &before, layout)
 }

@@ -1,9 +1,10 @@
 -- `checker::judge_lines` meets its contract: before each turn of the loop the lines that are left decide. Assumes nothing.
 use Prim.Native.Nat.{ℕ, ◌+◌}
-use mathlib.Core.Path.{refl, sym, subst, ◌∙◌}
+use mathlib.Core.Path.{◌≡◌, refl, sym, subst, ◌∙◌}
 use native.Mathlib.Omega.{arith}
+use lib.ListN.{length}
+use borrow.Author.Rules.{rules}
 use Rattle.board.specs.Stored.{job_of}
-use Rattle.candidates.proofs.ArraySizes.{net-size}
 use Rattle.lines.specs.Stepped.{Stepped}
 use Rattle.judging.specs.Judged.{KeepsStep}
 use Rattle.judging.specs.Values.{MapOf}
@@ -19,34 +20,36 @@ moved_at : (c : In-Read) → Stepped c.args.text.now c.loop-form.place c.in-Read
 moved_at c = left-moved _ _ _ _ _ _ c.loop-form.invariant _ _ _ _ c.in-Read.ensures
 
 -- its net
-looked : (c : After-net_found-net) → FoundAt c.args.job (formNumber c.in-Read.form) c.net_found-net.result
+looked : (c : After-net_found-net) → FoundAt c.args.job.now (formNumber c.in-Read.form) c.net_found-net.result
 looked c =
     let a = c.args in
-    found_at a.job a.numbers.now a.before.now c.requires.net_tables (net-size a.job c.well_formed.0) _ c.find_slot-at.result c.find_slot-at.ensures
+    let size : length a.job.now.nets ≡ 512 = search rules in
+    found_at a.job.now a.numbers.now a.before.now c.requires.net_tables size _ c.find_slot-at.result c.find_slot-at.ensures
     c.net_found-net.result c.net_found-net.ensures
 
 -- what it leads to
-led-at : (c : After-take_line-m) → FoundAt c.args.job (formNumber c.in-Read.form) c.net_found-net.result →
-    KeepsStep (job_of c.args.job)
-    (passStep (job_of c.args.job) (c.loop-form.place.passed + 1) c.loop-form.invariant.state
+led-at : (c : After-take_line-m) → FoundAt c.args.job.now (formNumber c.in-Read.form) c.net_found-net.result →
+    KeepsStep (job_of c.args.job.now)
+    (passStep (job_of c.args.job.now) (c.loop-form.place.passed + 1) c.loop-form.invariant.state
     (lineRead c.args.text.now c.in-Read.from c.in-Read.to c.in-Read.next.at))
     c.take_line-m.result c.take_line-m.new.stands
 led-at c f =
     let a = c.args in
     let w = c.loop-form.invariant in
     let t = c.requires.net_tables.accepted in
-    c.take_line-m.ensures.keeps_step (job_of a.job) w.state _ t.accepted refl (nets-counted a.job t (net-size a.job c.well_formed.0)) f.of-job
+    let size : length a.job.now.nets ≡ 512 = search rules in
+    c.take_line-m.ensures.keeps_step (job_of a.job.now) w.state _ t.accepted refl (nets-counted a.job.now t size) f.of-job
     (left-line _ _ _ _ _ _ w _ _ _ _ c.in-Read.ensures) w.map w.keeps
 
 pub loop-form-init : goal.loop-form-init
 loop-form-init c =
     let a = c.args in
-    left-start (job_of a.job) a.text.now _ _ _ c.requires.net_tables.accepted.accepted.nets-count c.unbegun-m.ensures c.block_map-map.ensures
+    left-start (job_of a.job.now) a.text.now _ _ _ c.requires.net_tables.accepted.accepted.nets-count c.unbegun-m.ensures c.block_map-map.ensures
     c.start-place.ensures.0 c.start-place.ensures.1
 
 pub returns-in_default : goal.returns-in_default
 returns-in_default c =
-    let job = job_of c.args.job in
+    let job = job_of c.args.job.now in
     let w = c.loop-form.invariant in
     c.finish.ensures job w.state _ w.keeps ∙
     answer-end job c.requires.net_tables.accepted.accepted _ _ (left_over _ _ _ _ _ _ w (sym c.in_default.is ∙ c.line_at.ensures))
@@ -85,7 +88,7 @@ take_line-m-requires-clause-count_bound c =
 pub returns-then-m-eq-DECIDED : goal.returns-then-m-eq-DECIDED
 returns-then-m-eq-DECIDED c =
     let here = goal.at.returns-then-m-eq-DECIDED c in
-    answer-broken (job_of c.args.job) c.requires.net_tables.accepted.accepted _ _
+    answer-broken (job_of c.args.job.now) c.requires.net_tables.accepted.accepted _ _
     (left-broken _ _ _ _ _ _ c.loop-form.invariant _ _ _ _ c.in-Read.ensures _ _ (led-at here.After-take_line-m (looked here.After-net_found-net)) c.if-m-eq-DECIDED.true)
 
 pub loop-form-smaller-then-m-above : goal.loop-form-smaller-then-m-above
@@ -99,7 +102,7 @@ loop-form-preserved-then-m-above c =
     let here = goal.at.loop-form-preserved-then-m-above c in
     let w = c.loop-form.invariant in
     left-more _ _ _ _ _ _ w _ _ _ _ c.in-Read.ensures _ _ (led-at here.After-take_line-m (looked here.After-net_found-net)) _ c.if-m-eq-DECIDED.false c.take_line-m.ensures.judged_in_range_2
-    (subst (λ (t : ℕ). MapOf (job_of c.args.job) t c.loop-form.map.words) (sym c.if-m-above.true) w.map)
+    (subst (λ (t : ℕ). MapOf (job_of c.args.job.now) t c.loop-form.map.words) (sym c.if-m-above.true) w.map)
 
 pub loop-form-smaller : goal.loop-form-smaller
 loop-form-smaller c =

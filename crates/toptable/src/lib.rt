@@ -1,7 +1,7 @@
 // The table of a track: which nets are eligible, and what the choice needs of each. The nets of the job are lent for it as a list of records.
 #![tactic(auto)]
 
-ghost use Rattle.std.specs.Prelude.{◌≡◌, ℕ, ◌≤◌, ◌<◌, length, get_or, take};
+ghost use Rattle.std.specs.Prelude.{◌≡◌, ℕ, ◌≤◌, ◌<◌, length, get_or};
 ghost use Rattle.board.specs.Stored.{job_of, AcceptedStored};
 ghost use Rattle.board.specs.Accepted.{BoardInRange, AcceptedNet};
 ghost use Rattle.blockmap.specs.Clear.{flag};
@@ -69,24 +69,15 @@ fn put_all_tops(nets: &[Net], board: Board, table: &mut [usize])
     }
 }
 
-// Lends the first `count` records of an array.
-fn lent_tops(nets: [Net; 512], count: usize, board: Board, table: &mut [usize])
-    requires { (count ≤ 512) × NetsLent board (take count nets) table.old }
-    ensures { table.new ≡ withAllTops board (take count nets) (length (take count nets)) table.old }
-{
-    put_all_tops(&nets[..count], board, table);
-}
-
 // The table of a track: which nets are eligible, and what the choice needs of each of those. The nets of the job are lent for it.
-pub fn tops_table(job: StoredJob, before: &[usize; 512], placed: &[usize; 512]) -> [usize; 2560]
-    requires accepted_stored { AcceptedStored job }
-    requires before_value { before.now ≡ precedingOf (job_of job) }
-    ensures { TableOf job placed.now result }
+pub fn tops_table(job: &StoredJob, before: &[usize; 512], placed: &[usize; 512]) -> [usize; 2560]
+    requires accepted_stored { AcceptedStored job.now }
+    requires before_value { before.now ≡ precedingOf (job_of job.now) }
+    ensures { TableOf job.now placed.now result }
 {
-    let nnets = job.nnets;
-    let mut table = eligible_nets(nnets, before, placed);
-    let nets = job.nets;
-    lent_tops(nets, nnets, job.board, &mut table);
+    let nets: &[Net] = &job.nets;
+    let mut table = eligible_nets(job.nnets, before, placed);
+    put_all_tops(&nets[..job.nnets], job.board, &mut table);
     table
 }
 

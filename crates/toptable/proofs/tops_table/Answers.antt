@@ -3,30 +3,29 @@ use mathlib.Core.Path.{◌≡◌}
 use native.Mathlib.Omega.{arith}
 use lib.ListN.{length}
 use borrow.Author.Rules.{rules}
-use Rattle.candidates.proofs.ArraySizes.{net-size}
 use Rattle.candidates.proofs.NetBefore.{before-range}
 use Rattle.toptable.proofs.LentNets.{nets-lent, table-made}
 use Rattle.toptable.proofs.tops_table.Goals as goal
 
 pub eligible_nets-table-requires : goal.eligible_nets-table-requires
 eligible_nets-table-requires c =
-    let job = c.args.job in
+    let job = c.args.job.now in
     let r = c.requires in
-    (r.accepted_stored.nets-room, λ k h. rw r.before_value (before-range job r.accepted_stored (net-size job c.well_formed.0) k h))
+    (r.accepted_stored.nets-room, λ k h. rw r.before_value (before-range job r.accepted_stored (search rules) k h))
 
-pub lent_tops-requires : goal.lent_tops-requires
-lent_tops-requires c =
-    let job = c.args.job in
+pub put_all_tops-requires : goal.put_all_tops-requires
+put_all_tops-requires c =
+    let job = c.args.job.now in
     let accepted = c.requires.accepted_stored in
     let marks = c.eligible_nets-table.result in
     let size : length marks ≡ 2560 = search rules in
-    (accepted.nets-room, nets-lent job accepted (net-size job c.well_formed.0) marks (omega arith))
+    nets-lent job accepted (search rules) marks (omega arith)
 
 pub returns : goal.returns
 returns c =
-    let job = c.args.job in
+    let job = c.args.job.now in
     let r = c.requires in
     let marks = c.eligible_nets-table in
     let size : length marks.result ≡ 2560 = search rules in
-    table-made job r.accepted_stored (net-size job c.well_formed.0) c.args.placed.now marks.result c.lent_tops.new.table size
-    (λ k h. rw r.before_value at (marks.ensures k h)) c.lent_tops.ensures
+    table-made job r.accepted_stored (search rules) c.args.placed.now marks.result c.put_all_tops.new.table size
+    (λ k h. rw r.before_value at (marks.ensures k h)) c.put_all_tops.ensures

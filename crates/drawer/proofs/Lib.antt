@@ -1,5 +1,4 @@
 -- A plan drawn as the text of a layout.
-pub mod PlanSizes
 pub mod TextParts
 pub mod NetsByTop
 pub mod RowsWritten

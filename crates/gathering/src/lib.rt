@@ -10,7 +10,7 @@ ghost use Rattle.candidates.specs.Placed.{precedingOf};
 ghost use Rattle.candidates.specs.Gathered.{arraysOf, onPart, GatheredFrom};
 
 use blockmap::BlockMap;
-use board::{StoredJob, Track};
+use board::{Net, StoredJob, Track};
 use candidates::{Candidates, NetTops, block_map, has_blocks};
 use toptable::{tops_in, tops_table};
 
@@ -49,17 +49,19 @@ fn no_candidates() -> Candidates
 // The candidates for a track, where placed[k] is the track of net k, or 0. Candidate i has part i of the flags, 1,024 bytes long: byte
 // top − 1 of it is 1 if the candidate is clear of blocks with its top there, otherwise 0.
 pub fn gather(
-    job: StoredJob,
+    job: &StoredJob,
     before: &[usize; 512],
     placed: &[usize; 512],
     track: Track,
     flags: &mut [u8],
 ) -> Candidates
-    requires accepted_stored { AcceptedStored job }
-    requires before_value { before.now ≡ precedingOf (job_of job) }
+    requires accepted_stored { AcceptedStored job.now }
+    requires before_value { before.now ≡ precedingOf (job_of job.now) }
     requires in_bounds { 524288 ≤ length flags.old }
-    ensures { GatheredFrom (job_of job) placed.now track.0 flags.old result flags.new }
+    ensures { GatheredFrom (job_of job.now) placed.now track.0 flags.old result flags.new }
 {
+    // Lent as a slice only to tell the proof that the job has 512 slots for nets.
+    let _nets: &[Net] = &job.nets;
     let any = has_blocks(job, track);
     let map = block_map(job, track);
     let table = tops_table(job, before, placed);

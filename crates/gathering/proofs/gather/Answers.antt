@@ -3,8 +3,8 @@ use Prim.Native.Nat.{◌<◌}
 use mathlib.Core.Path.{sym, ◌∙◌}
 use native.Mathlib.Omega.{arith}
 use lib.ListN.{get_or}
+use borrow.Author.Rules.{rules}
 use Rattle.board.specs.Stored.{noNet, job_of}
-use Rattle.candidates.proofs.ArraySizes.{net-size}
 use Rattle.candidates.proofs.NetBefore.{net-accepted}
 use Rattle.candidates.proofs.TrackBlocks.{none-blocked}
 use Rattle.toptable.proofs.LentNets.{not-eligible, is-ready}
@@ -14,13 +14,13 @@ use Rattle.gathering.proofs.gather.Goals as goal
 pub loop-next-init : goal.loop-next-init
 loop-next-init c =
     let a = c.args in
-    let job = a.job in
+    let job = a.job.now in
     let accepted = c.requires.accepted_stored in
     let words = c.block_map-map.result.words in
     let found = c.no_candidates-found.result in
     let none = passed_none job a.placed.now words a.flags.now found (c.no_candidates-found.ensures job.board) in record {
       in_nets = omega arith;
-      no_more = passed-count job accepted (net-size job c.well_formed.0) a.placed.now words a.flags.now found a.flags.now 0 (omega arith) none;
+      no_more = passed-count job accepted (search rules) a.placed.now words a.flags.now found a.flags.now 0 (omega arith) none;
       passed = none;
     }
 
@@ -28,7 +28,7 @@ loop-next-init c =
 pub loop-next-preserved-then-table-i-eq0 : goal.loop-next-preserved-then-table-i-eq0
 loop-next-preserved-then-table-i-eq0 c =
     let a = c.args in
-    let job = a.job in
+    let job = a.job.now in
     let accepted = c.requires.accepted_stored in
     let l = c.loop-next in
     let table = c.tops_table-table in
@@ -36,22 +36,22 @@ loop-next-preserved-then-table-i-eq0 c =
     let ready = not-eligible job a.placed.now table.result table.ensures l.next h c.if-table-i-eq0.true in record {
       in_nets = omega arith;
       no_more = omega arith;
-      passed = passed-skip job accepted (net-size job c.well_formed.0) a.placed.now c.block_map-map.result.words a.flags.now l.found l.flags l.next h l.invariant.passed ready;
+      passed = passed-skip job accepted (search rules) a.placed.now c.block_map-map.result.words a.flags.now l.found l.flags l.next h l.invariant.passed ready;
     }
 
 pub flag_part-requires-clause-row_value : goal.flag_part-requires-clause-row_value
 flag_part-requires-clause-row_value c e row =
-    c.block_map-map.ensures row ∙ none-blocked (job_of c.args.job) c.args.track.0 (sym c.has_blocks-any.ensures ∙ e) row
+    c.block_map-map.ensures row ∙ none-blocked (job_of c.args.job.now) c.args.track.0 (sym c.has_blocks-any.ensures ∙ e) row
 
 pub flag_part-requires-clause-le_first : goal.flag_part-requires-clause-le_first
 flag_part-requires-clause-le_first c =
     let a = c.args in
-    let job = a.job in
+    let job = a.job.now in
     let accepted = c.requires.accepted_stored in
     let i = c.loop-next.next in
     let table = c.tops_table-table in
     let h : i < job.nnets = omega arith in
-    let n = net-accepted job accepted (net-size job c.well_formed.0) i h in
+    let n = net-accepted job accepted (search rules) i h in
     let ready = is-ready job a.placed.now table.result table.ensures i h c.if-table-i-eq0.false in
     tops-range job.board (get_or job.nets i noNet) c.tops_in-tops.result accepted.accepted.board-range n
     (rw c.tops_in-tops.ensures (table.ensures.tops i h ready))
@@ -60,7 +60,7 @@ flag_part-requires-clause-le_first c =
 pub loop-next-preserved : goal.loop-next-preserved
 loop-next-preserved c =
     let a = c.args in
-    let job = a.job in
+    let job = a.job.now in
     let r = c.requires in
     let l = c.loop-next in
     let table = c.tops_table-table in
@@ -68,15 +68,15 @@ loop-next-preserved c =
     let ready = is-ready job a.placed.now table.result table.ensures l.next h c.if-table-i-eq0.false in record {
       in_nets = omega arith;
       no_more = omega arith;
-      passed = passed-take job r.accepted_stored (net-size job c.well_formed.0) a.placed.now c.block_map-map.result.words a.flags.now l.found l.flags l.next h
+      passed = passed-take job r.accepted_stored (search rules) a.placed.now c.block_map-map.result.words a.flags.now l.found l.flags l.next h
           r.in_bounds l.invariant.passed ready c.tops_in-tops.result (rw c.tops_in-tops.ensures (table.ensures.tops l.next h ready)) c.flag_part.new.flags c.flag_part.ensures;
     }
 
 pub returns : goal.returns
 returns c =
     let a = c.args in
-    let job = a.job in
+    let job = a.job.now in
     let r = c.requires in
     let l = c.loop-next in
-    passed-all job r.accepted_stored (net-size job c.well_formed.0) a.placed.now c.block_map-map.result.words a.flags.now l.found l.flags l.next a.track.0
+    passed-all job r.accepted_stored (search rules) a.placed.now c.block_map-map.result.words a.flags.now l.found l.flags l.next a.track.0
     c.block_map-map.ensures r.in_bounds (omega arith) (omega arith) l.invariant.passed

@@ -23,17 +23,14 @@ fn put_top(out: &mut [u8], board: Board) -> usize
 }
 
 // Writes the lines of the nets, in their order, which is by rising number.
-fn put_nets(out: &mut [u8], at: usize, job: StoredJob) -> usize
-    requires accepted_stored { AcceptedStored job }
-    requires job_in_bounds { at + length (netsText job.board (job_of job).nets) ≤ length out.old }
-    ensures { WrittenAt at (netsText job.board (job_of job).nets) out.old out.new result }
+fn put_nets(out: &mut [u8], at: usize, job: &StoredJob) -> usize
+    requires accepted_stored { AcceptedStored job.now }
+    requires job_in_bounds { at + length (netsText job.now.board (job_of job.now).nets) ≤ length out.old }
+    ensures { WrittenAt at (netsText job.now.board (job_of job.now).nets) out.old out.new result }
 {
-    let board = job.board;
-    let nnets = job.nnets;
     let mut next = at;
-    for i in 0..nnets {
-        let net = job.nets[i];
-        next = joblines::put_net(out, next, board, net);
+    for i in 0..job.nnets {
+        next = joblines::put_net(out, next, job.board, job.nets[i]);
     }
     next
 }
@@ -54,10 +51,10 @@ fn put_keys(out: &mut [u8], at: usize, keys: &[usize], count: usize) -> usize
 }
 
 // Writes the lines of the blocks, by track, A and B.
-fn put_blocks(out: &mut [u8], at: usize, job: StoredJob) -> usize
-    requires accepted_stored { AcceptedStored job }
-    requires job_in_bounds { at + length (blocksText (sortBlocks (job_of job).blocks)) ≤ length out.old }
-    ensures { WrittenAt at (blocksText (sortBlocks (job_of job).blocks)) out.old out.new result }
+fn put_blocks(out: &mut [u8], at: usize, job: &StoredJob) -> usize
+    requires accepted_stored { AcceptedStored job.now }
+    requires job_in_bounds { at + length (blocksText (sortBlocks (job_of job.now).blocks)) ≤ length out.old }
+    ensures { WrittenAt at (blocksText (sortBlocks (job_of job.now).blocks)) out.old out.new result }
 {
     let mut keys = [0usize; 256];
     blocksort::sort_keys(job, &mut keys);
@@ -65,13 +62,12 @@ fn put_blocks(out: &mut [u8], at: usize, job: StoredJob) -> usize
 }
 
 // Writes the fixed text of a job at the start of out, and returns its length.
-pub fn write_house(job: StoredJob, out: &mut [u8]) -> usize
-    requires accepted_stored { AcceptedStored job }
-    requires job_in_bounds { length (houseText (job_of job)) ≤ length out.old }
-    ensures { Written (houseText (job_of job)) out.old out.new result }
+pub fn write_house(job: &StoredJob, out: &mut [u8]) -> usize
+    requires accepted_stored { AcceptedStored job.now }
+    requires job_in_bounds { length (houseText (job_of job.now)) ≤ length out.old }
+    ensures { Written (houseText (job_of job.now)) out.old out.new result }
 {
-    let board = job.board;
-    let a = put_top(out, board);
+    let a = put_top(out, job.board);
     let b = put_nets(out, a, job);
     let c = put_blocks(out, b, job);
     linewriter::put_closing(out, c)

@@ -8,8 +8,8 @@ put_keys-requires c =
     let stored = c.requires.accepted_stored in
     record {
       count_in_bounds = omega (arith, stored.blocks-room);
-      keys_in_bounds = rw (sorted-lines c.args.job stored c.sort_keys.ensures) c.requires.job_in_bounds;
+      keys_in_bounds = rw (sorted-lines c.args.job.now stored c.sort_keys.ensures) c.requires.job_in_bounds;
     }
 
 pub returns : goal.returns
-returns c = rw (sorted-lines c.args.job c.requires.accepted_stored c.sort_keys.ensures) at c.put_keys.ensures
+returns c = rw (sorted-lines c.args.job.now c.requires.accepted_stored c.sort_keys.ensures) at c.put_keys.ensures

@@ -4,4 +4,4 @@ use Rattle.housewriter.proofs.Parts.{netsOn}
 use Rattle.housewriter.proofs.put_nets.Given as goal
 
 abbrev pub invariant-loop-i : goal.invariant-loop-i
-invariant-loop-i l = Going l.at (netsOn l.job.board l.job.nets l.nnets 0) (netsOn l.job.board l.job.nets l.nnets l.i) l.initial.out l.out l.next
+invariant-loop-i l = Going l.at (netsOn l.job.board l.job.nets l.job.nnets 0) (netsOn l.job.board l.job.nets l.job.nnets l.i) l.initial.out l.out l.next

@@ -35,13 +35,13 @@ room j s h = omega arith
 
 pub put_top-a-requires : goal.put_top-a-requires
 put_top-a-requires c =
-    let j = c.args.job in
+    let j = c.args.job.now in
     let s = c.args.out.now in
     omega (arith, going-room (top j) (nets j ++ (blocks j ++ closingText)) (start j s) (room j s c.requires.job_in_bounds))
 
 pub put_nets-b-requires : goal.put_nets-b-requires
 put_nets-b-requires c =
-    let j = c.args.job in
+    let j = c.args.job.now in
     let s = c.args.out.now in
     let h = room j s c.requires.job_in_bounds in
     let g0 = going_more (top j) (nets j ++ (blocks j ++ closingText)) (start j s) h c.put_top-a.ensures in
@@ -49,7 +49,7 @@ put_nets-b-requires c =
 
 pub put_blocks-c-requires : goal.put_blocks-c-requires
 put_blocks-c-requires c =
-    let j = c.args.job in
+    let j = c.args.job.now in
     let s = c.args.out.now in
     let h = room j s c.requires.job_in_bounds in
     let g0 = going_more (top j) (nets j ++ (blocks j ++ closingText)) (start j s) h c.put_top-a.ensures in
@@ -58,7 +58,7 @@ put_blocks-c-requires c =
 
 pub put_closing-requires : goal.put_closing-requires
 put_closing-requires c =
-    let j = c.args.job in
+    let j = c.args.job.now in
     let s = c.args.out.now in
     let h = room j s c.requires.job_in_bounds in
     let g0 = going_more (top j) (nets j ++ (blocks j ++ closingText)) (start j s) h c.put_top-a.ensures in
@@ -67,7 +67,7 @@ put_closing-requires c =
 
 pub returns : goal.returns
 returns c =
-    let j = c.args.job in
+    let j = c.args.job.now in
     let s = c.args.out.now in
     let h = room j s c.requires.job_in_bounds in
     let g0 = going_more (top j) (nets j ++ (blocks j ++ closingText)) (start j s) h c.put_top-a.ensures in

@@ -46,16 +46,15 @@ pub struct Progress {
     pub sums: [usize; 128],
 }
 
-// A track recorded from its plan: the walk from row 1 takes the net chosen for a row, and goes on below it.
-pub fn record_track(p: Progress, job: StoredJob, plan: TrackPlan, track: Track) -> Progress
-    requires accepted_job { AcceptedJob (job_of job) }
-    requires on_turn { OnTurn (job_of job) track.0 p }
-    requires plan_value { plan ≡ trackPlan (job_of job) track.0 }
-    ensures { result ≡ progressTo (job_of job) track.0 }
+// A track recorded in p from its plan: the walk from row 1 takes the net chosen for a row, and goes on below it.
+pub fn record_track(p: &mut Progress, job: &StoredJob, plan: &TrackPlan, track: Track)
+    requires accepted_job { AcceptedJob (job_of job.now) }
+    requires on_turn { OnTurn (job_of job.now) track.0 p.old }
+    requires plan_value { plan.now ≡ trackPlan (job_of job.now) track.0 }
+    ensures { p.new ≡ progressTo (job_of job.now) track.0 }
 {
-    let mut next = p;
     let t = track.0;
-    next.sums[t - 1] = plan.sum;
+    p.sums[t - 1] = plan.sum;
     let board = job.board;
     let mut j = 1;
     while j <= board.rows {
@@ -72,12 +71,11 @@ pub fn record_track(p: Progress, job: StoredJob, plan: TrackPlan, track: Track) 
                 shape,
             };
             let wired = NetPlan { stand };
-            next.placed[c] = t;
-            next.nets[c] = wired;
+            p.placed[c] = t;
+            p.nets[c] = wired;
             j = bottom + 1;
         }
     }
-    next
 }
 
 // Nothing planned yet: every net is loose.
@@ -95,10 +93,10 @@ fn no_progress() -> Progress
 }
 
 // The plan of a job: its tracks filled in order 1 to K. No track of it is beaten, and each wire is at its shortest length.
-pub fn plan_job(job: StoredJob) -> JobPlan
-    requires { AcceptedStored job }
-    ensures answer { result ≡ jobPlanOf (job_of job) }
-    ensures best { BestPlan (job_of job) result }
+pub fn plan_job(job: &StoredJob) -> JobPlan
+    requires { AcceptedStored job.now }
+    ensures answer { result ≡ jobPlanOf (job_of job.now) }
+    ensures best { BestPlan (job_of job.now) result }
 {
     let before = preceding(job);
     let mut flags = [0u8; 524288];
@@ -106,8 +104,8 @@ pub fn plan_job(job: StoredJob) -> JobPlan
     let mut t = 1;
     while t <= job.board.tracks {
         let c = gather(job, &before, &p.placed, Track(t), &mut flags);
-        let plan = fill(c, &flags, job.board.rows);
-        p = record_track(p, job, plan, Track(t));
+        let plan = fill(&c, &flags, job.board.rows);
+        record_track(&mut p, job, &plan, Track(t));
         t += 1;
     }
     let nets = p.nets;

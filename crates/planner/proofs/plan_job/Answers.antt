@@ -14,31 +14,31 @@ use Rattle.planner.proofs.plan_job.Goals.{After-gather-c}
 use Rattle.planner.proofs.plan_job.Goals as goal
 
 pub loop-t-init : goal.loop-t-init
-loop-t-init c = (omega arith, omega arith, c.no_progress-p.ensures ∙ none-planned (job_of c.args.job) c.requires.accepted, length-replicate {A = ℕ} 524288 0)
+loop-t-init c = (omega arith, omega arith, c.no_progress-p.ensures ∙ none-planned (job_of c.args.job.now) c.requires.accepted, length-replicate {A = ℕ} 524288 0)
 
 -- the track on turn, and its candidates with the nets of the tracks before it held
-on-turn : (c : After-gather-c) → OnTurn (job_of c.args.job) c.loop-t.t c.loop-t.p
+on-turn : (c : After-gather-c) → OnTurn (job_of c.args.job.now) c.loop-t.t c.loop-t.p
 on-turn c = record { track-range = (omega arith, omega arith); so_far = c.loop-t.invariant.2 }
 
-held : (c : After-gather-c) → Gathered (job_of c.args.job) (onFirst (job_of c.args.job) (c.loop-t.t - 1)) c.loop-t.t c.gather-c.result c.gather-c.new.flags
-held c = gathered-first (job_of c.args.job) c.loop-t.t c.loop-t.p _ _ c.gather-c.result (on-turn c) c.gather-c.ensures
+held : (c : After-gather-c) → Gathered (job_of c.args.job.now) (onFirst (job_of c.args.job.now) (c.loop-t.t - 1)) c.loop-t.t c.gather-c.result c.gather-c.new.flags
+held c = gathered-first (job_of c.args.job.now) c.loop-t.t c.loop-t.p _ _ c.gather-c.result (on-turn c) c.gather-c.ensures
 
 pub fill-plan-requires : goal.fill-plan-requires
 fill-plan-requires c =
-    gathered-bounds (job_of c.args.job) _ c.loop-t.t c.gather-c.result _ c.requires.accepted (held (goal.at.fill-plan-requires c).After-gather-c) (omega arith)
+    gathered-bounds (job_of c.args.job.now) _ c.loop-t.t c.gather-c.result _ c.requires.accepted (held (goal.at.fill-plan-requires c).After-gather-c) (omega arith)
 
-pub record_track-p-requires-clause-plan_value : goal.record_track-p-requires-clause-plan_value
-record_track-p-requires-clause-plan_value c =
-    let g = (goal.at.record_track-p-requires-clause-plan_value c).After-gather-c in
-    c.fill-plan.ensures ∙ filled-plan (job_of c.args.job) _ c.loop-t.t c.gather-c.result _ c.requires.accepted (held g)
+pub record_track-requires-clause-plan_value : goal.record_track-requires-clause-plan_value
+record_track-requires-clause-plan_value c =
+    let g = (goal.at.record_track-requires-clause-plan_value c).After-gather-c in
+    c.fill-plan.ensures ∙ filled-plan (job_of c.args.job.now) _ c.loop-t.t c.gather-c.result _ c.requires.accepted (held g)
 
 pub returns-clause-answer : goal.returns-clause-answer
 returns-clause-answer c =
-    let e : c.loop-t.t - 1 ≡ c.args.job.board.tracks = omega arith in
-    all-planned (job_of c.args.job) c.loop-t.p (c.loop-t.invariant.2 ∙ ap (progressTo (job_of c.args.job)) e)
+    let e : c.loop-t.t - 1 ≡ c.args.job.now.board.tracks = omega arith in
+    all-planned (job_of c.args.job.now) c.loop-t.p (c.loop-t.invariant.2 ∙ ap (progressTo (job_of c.args.job.now)) e)
 
 pub returns-clause-best : goal.returns-clause-best
 returns-clause-best c =
-    let e : c.loop-t.t - 1 ≡ c.args.job.board.tracks = omega arith in
-    let is = all-planned (job_of c.args.job) c.loop-t.p (c.loop-t.invariant.2 ∙ ap (progressTo (job_of c.args.job)) e) in
-    rw is (best-plan (job_of c.args.job) c.requires.accepted)
+    let e : c.loop-t.t - 1 ≡ c.args.job.now.board.tracks = omega arith in
+    let is = all-planned (job_of c.args.job.now) c.loop-t.p (c.loop-t.invariant.2 ∙ ap (progressTo (job_of c.args.job.now)) e) in
+    rw is (best-plan (job_of c.args.job.now) c.requires.accepted)

@@ -26,8 +26,7 @@ pub fn house(job: &[u8], out: &mut [u8]) -> TextAnswer
     if jobrules::number_of(outcome) != 0 {
         return TextAnswer::Refused(outcome);
     }
-    let stored = answer.job;
     let mut fixed = [0u8; 28564];
-    let needed = housewriter::write_house(stored, &mut fixed);
+    let needed = housewriter::write_house(&answer.job, &mut fixed);
     answers::put_answer(&fixed[..needed], out)
 }

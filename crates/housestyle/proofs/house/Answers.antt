@@ -15,7 +15,7 @@ returns-then-number_of-ne0 c =
     let e = given-refused file c.read-answer.result c.number_of.result c.read-answer.ensures.answer c.number_of.ensures c.if-number_of-ne0.true in
     promised file before (refused-given houseText file before _ e)
 
--- behind the test of the number: the job by value is an accepted one, and the text is read as it
+-- behind the test of the number: the job that was read is an accepted one, and the text is read as it
 pub write_house-needed-requires : goal.write_house-needed-requires
 write_house-needed-requires c =
     let a = given-stored c.args.job.now c.read-answer.result c.number_of.result c.read-answer.ensures.answer c.number_of.ensures c.if-number_of-ne0.false in

@@ -1,6 +1,5 @@
 -- The laws of the definitions in specs/.
 pub mod Prefixes
-pub mod ArraySizes
 pub mod TrackBlocks
 pub mod FlagParts
 pub mod NetBefore

@@ -28,9 +28,8 @@ pub fn route(job: &[u8], out: &mut [u8]) -> TextAnswer
     if jobrules::number_of(outcome) != 0 {
         return TextAnswer::Refused(outcome);
     }
-    let stored = answer.job;
-    let plan = planner::plan_job(stored);
+    let plan = planner::plan_job(&answer.job);
     let mut drawn = [0u8; 64000];
-    let needed = drawer::draw(stored, plan, &mut drawn);
+    let needed = drawer::draw(&answer.job, &plan, &mut drawn);
     answers::put_answer(&drawn[..needed], out)
 }

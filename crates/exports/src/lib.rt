@@ -95,9 +95,9 @@ pub extern "C" fn hankuribo_check(
 }
 
 // The sums of all tracks, added up.
-fn add_up(sums: [usize; 128]) -> usize
-    requires { addedUp sums ≤ 524288 }
-    ensures { result ≡ addedUp sums }
+fn add_up(sums: &[usize; 128]) -> usize
+    requires { addedUp sums.now ≤ 524288 }
+    ensures { result ≡ addedUp sums.now }
 {
     let mut total = 0;
     for i in 0..128 {
@@ -126,8 +126,6 @@ pub extern "C" fn hankuribo_plan(text: &[u8]) -> usize
     if jobrules::number_of(found) != 0 {
         return 0;
     }
-    let job = answer.job;
-    let plan = planner::plan_job(job);
-    let sums = plan.sums;
-    add_up(sums)
+    let plan = planner::plan_job(&answer.job);
+    add_up(&plan.sums)
 }

@@ -10,18 +10,18 @@ use Rattle.exports.proofs.Sums.{added_none, added_next, added-first}
 use Rattle.exports.proofs.add_up.Goals as goal
 
 pub loop-i-init : goal.loop-i-init
-loop-i-init c = added_none c.args.sums
+loop-i-init c = added_none c.args.sums.now
 
 pub overflow_add-total : goal.overflow_add-total
 overflow_add-total c =
-    let xs = c.args.sums in
+    let xs = c.args.sums.now in
     let n : length xs ≡ 128 = search rules in
     let i = c.loop-i.i in
     omega (arith, added_next xs i (omega arith), added-first xs (suc i))
 
 pub loop-i-preserved : goal.loop-i-preserved
 loop-i-preserved c =
-    let xs = c.args.sums in
+    let xs = c.args.sums.now in
     let n : length xs ≡ 128 = search rules in
     let i = c.loop-i.i in
     let e : i + 1 ≡ suc i = omega arith in
@@ -29,6 +29,6 @@ loop-i-preserved c =
 
 pub returns : goal.returns
 returns c =
-    let xs = c.args.sums in
+    let xs = c.args.sums.now in
     let n : length xs ≡ 128 = search rules in
     c.loop-i.invariant ∙ ap addedUp (take_all c.loop-i.i xs (omega arith))

@@ -98,18 +98,18 @@ module _ (job : Job) (t : ℕ) where
       flags-length (λ top. tests.clearRows job t top (needed job.board x.net)) (firstTop x.net (shortest job.board x.net))
       (lastTop job.board x.net (shortest job.board x.net) + 1 - firstTop x.net (shortest job.board x.net)) part
 
-  pub slot-length : (i : ℕ) (x : Candidate) (bytes : List ℕ) → i * 1024 + 1024 ≤ length bytes → length (flagSlot job t i x bytes) ≡ length bytes
+  pub slot-length : (i : ℕ) (x : Candidate) (bytes : List ℕ) → i * 1088 + 1024 ≤ length bytes → length (flagSlot job t i x bytes) ≡ length bytes
   unfolding flagSlot
   slot-length i x bytes h = part_length i (Flagged x) bytes (flagged-length x) h
 
-  slot-below : (i : ℕ) (x : Candidate) (bytes : List ℕ) (j : ℕ) → i * 1024 + 1024 ≤ length bytes → j < i * 1024
+  slot-below : (i : ℕ) (x : Candidate) (bytes : List ℕ) (j : ℕ) → i * 1088 + 1024 ≤ length bytes → j < i * 1088
       → get_or (flagSlot job t i x bytes) j 0 ≡ get_or bytes j 0
   unfolding flagSlot
   slot-below i x bytes j h l = part-below i (Flagged x) bytes (flagged-length x) h j l
 
-  slot_at : (i : ℕ) (x : Candidate) (bytes : List ℕ) (top : ℕ) → job.board.rows ≤ 1024 → i * 1024 + 1024 ≤ length bytes
+  slot_at : (i : ℕ) (x : Candidate) (bytes : List ℕ) (top : ℕ) → job.board.rows ≤ 1024 → i * 1088 + 1024 ≤ length bytes
       → firstTop x.net (shortest job.board x.net) ≤ top → top ≤ lastTop job.board x.net (shortest job.board x.net)
-      → get_or (flagSlot job t i x bytes) (i * 1024 + (top - 1)) 0 ≡ flag (tests.clearRows job t top (needed job.board x.net))
+      → get_or (flagSlot job t i x bytes) (i * 1088 + (top - 1)) 0 ≡ flag (tests.clearRows job t top (needed job.board x.net))
   unfolding flagSlot
   slot_at i x bytes top rows h a b =
       let board = job.board in
@@ -117,21 +117,21 @@ module _ (job : Job) (t : ℕ) where
       let s = shortest board n in
       let first = firstTop n s in
       let last = lastTop board n s in
-      let part = take 1024 (drop (i * 1024) bytes) in
+      let part = take 1024 (drop (i * 1088) bytes) in
       let one : 1 ≤ first = first-top-one n s in
       let p = top-range board n s top a b in
       let q : last ≤ board.rows = (top-range board n s last (omega arith) (omega arith)).to-rows in
-      let size : length part ≡ 1024 = length-take-le 1024 (drop (i * 1024) bytes) (omega (arith, length-drop (i * 1024) bytes)) in
+      let size : length part ≡ 1024 = length-take-le 1024 (drop (i * 1088) bytes) (omega (arith, length-drop (i * 1088) bytes)) in
       part_at i (Flagged x) bytes (flagged-length x) h (top - 1) (omega arith)
       ∙ flags-at (λ r. tests.clearRows job t r (needed board n)) first (last + 1 - first) part top one a (omega arith) (omega arith)
 
   -- the parts from i on leave those before them
-  slots-below : (i : ℕ) (xs : List Candidate) (bytes : List ℕ) (j : ℕ) → (i + length xs) * 1024 ≤ length bytes → j < i * 1024
+  slots-below : (i : ℕ) (xs : List Candidate) (bytes : List ℕ) (j : ℕ) → (i + length xs) * 1088 ≤ length bytes → j < i * 1088
       → get_or (flagSlots job t i xs bytes) j 0 ≡ get_or bytes j 0
   unfolding flagSlots
   slots-below i [] bytes j h l = refl
   slots-below i (x ∷ xs) bytes j h l =
-      let room : i * 1024 + 1024 ≤ length bytes = omega arith in
+      let room : i * 1088 + 1024 ≤ length bytes = omega arith in
       let size : length (flagSlot job t i x bytes) ≡ length bytes = slot-length i x bytes room in
       slots-below (suc i) xs (flagSlot job t i x bytes) j (omega arith) (omega arith) ∙ slot-below i x bytes j room l
 
@@ -144,13 +144,13 @@ module _ (job : Job) (t : ℕ) where
       in_list [] rest = refl
       in_list (p ∷ ps) rest = in_list ps rest
 
-  slot-holds : job.board.rows ≤ 1024 → (pre xs : List Candidate) (x : Candidate) (bytes : List ℕ) → (length pre + suc (length xs)) * 1024 ≤ length bytes
+  slot-holds : job.board.rows ≤ 1024 → (pre xs : List Candidate) (x : Candidate) (bytes : List ℕ) → (length pre + suc (length xs)) * 1088 ≤ length bytes
       → Slot job t (arraysOf job.board (pre ++ (x ∷ xs))) (flagSlots job t (suc (length pre)) xs (flagSlot job t (length pre) x bytes)) (length pre) x
   unfolding arraysOf
   slot-holds rows pre xs x bytes room =
       let board = job.board in
       let i = length pre in
-      let part : i * 1024 + 1024 ≤ length bytes = omega arith in
+      let part : i * 1088 + 1024 ≤ length bytes = omega arith in
       let size : length (flagSlot job t i x bytes) ≡ length bytes = slot-length i x bytes part in
       let first = in_array (λ y. firstTop y.net (shortest board y.net)) pre xs x in
       let last = in_array (λ y. lastTop board y.net (shortest board y.net)) pre xs x in
@@ -164,24 +164,24 @@ module _ (job : Job) (t : ℕ) where
             let from : firstTop x.net (shortest board x.net) ≤ top = rw first at a in
             let to : top ≤ lastTop board x.net (shortest board x.net) = rw last at b in
             let p = top-range board x.net (shortest board x.net) top from to in
-            slots-below (suc i) xs (flagSlot job t i x bytes) (i * 1024 + (top - 1)) (omega arith) (omega arith)
+            slots-below (suc i) xs (flagSlot job t i x bytes) (i * 1088 + (top - 1)) (omega arith) (omega arith)
             ∙ slot_at i x bytes top rows part from to;
       }
 
-  pub slots-hold : job.board.rows ≤ 1024 → (pre xs : List Candidate) (bytes : List ℕ) → (length pre + length xs) * 1024 ≤ length bytes
+  pub slots-hold : job.board.rows ≤ 1024 → (pre xs : List Candidate) (bytes : List ℕ) → (length pre + length xs) * 1088 ≤ length bytes
       → Slots job t (arraysOf job.board (pre ++ xs)) (flagSlots job t (length pre) xs bytes) (length pre) xs
   unfolding flagSlots
   slots-hold rows pre [] bytes room = tt
   slots-hold rows pre (x ∷ xs) bytes room =
       let n : length (pre ++ (x ∷ [])) ≡ suc (length pre) = length-append pre (x ∷ []) ∙ omega arith in
-      let part : length pre * 1024 + 1024 ≤ length bytes = omega arith in
+      let part : length pre * 1088 + 1024 ≤ length bytes = omega arith in
       let size : length (flagSlot job t (length pre) x bytes) ≡ length bytes = slot-length (length pre) x bytes part in (
         slot-holds rows pre xs x bytes room,
         rw (n, append_snoc pre x xs) at (slots-hold rows (pre ++ (x ∷ [])) xs (flagSlot job t (length pre) x bytes) (omega arith)),
       )
 
 -- the arrays and the flags hold the candidates
-pub gathered : (job : Job) (earlier : List ℕ) (t : ℕ) (c : Candidates) (before after : List ℕ) → AcceptedJob job → 524288 ≤ length before
+pub gathered : (job : Job) (earlier : List ℕ) (t : ℕ) (c : Candidates) (before after : List ℕ) → AcceptedJob job → 557056 ≤ length before
     → c ≡ arraysOf job.board (candidatesOf job earlier) → after ≡ flagSlots job t 0 (candidatesOf job earlier) before → Gathered job earlier t c after
 unfolding candidatesOf arraysOf
 gathered job earlier t c before after a room e f =

@@ -28,7 +28,7 @@ module _ (first last flags : List ℕ) (j i : ℕ) where
   Stands = hasClearTop first last flags j i
 
   -- at a top of the candidate its flag decides, elsewhere it cannot stand
-  pub stands-inside : (leb (get_or first i 0) j && leb j (get_or last i 0)) ≡ true → Stands ≡ eqb (get_or flags (i * 1024 + (j - 1)) 0) 1
+  pub stands-inside : (leb (get_or first i 0) j && leb j (get_or last i 0)) ≡ true → Stands ≡ eqb (get_or flags (i * 1088 + (j - 1)) 0) 1
   unfolding hasClearTop
   stands-inside t = rw t
 

@@ -99,7 +99,7 @@ pub fn plan_job(job: &StoredJob) -> JobPlan
     ensures best { BestPlan (job_of job.now) result }
 {
     let before = preceding(job);
-    let mut flags = [0u8; 524288];
+    let mut flags = [0u8; 557056];
     let mut p = no_progress();
     let mut t = 1;
     while t <= job.board.tracks {

@@ -14,7 +14,7 @@ use Rattle.planner.proofs.plan_job.Goals.{After-gather-c}
 use Rattle.planner.proofs.plan_job.Goals as goal
 
 pub loop-t-init : goal.loop-t-init
-loop-t-init c = (omega arith, omega arith, c.no_progress-p.ensures ∙ none-planned (job_of c.args.job.now) c.requires.accepted, length-replicate {A = ℕ} 524288 0)
+loop-t-init c = (omega arith, omega arith, c.no_progress-p.ensures ∙ none-planned (job_of c.args.job.now) c.requires.accepted, length-replicate {A = ℕ} 557056 0)
 
 -- the track on turn, and its candidates with the nets of the tracks before it held
 on-turn : (c : After-gather-c) → OnTurn (job_of c.args.job.now) c.loop-t.t c.loop-t.p

@@ -7,7 +7,7 @@ use Rattle.planner.specs.Progressed.{progressTo}
 use Rattle.planner.proofs.plan_job.Given as goal
 
 abbrev pub invariant-loop-t : goal.invariant-loop-t
-invariant-loop-t l = (1 ≤ l.t) × (l.t ≤ l.job.board.tracks + 1) × (l.p ≡ progressTo (job_of l.job) (l.t - 1)) × (length l.flags ≡ 524288)
+invariant-loop-t l = (1 ≤ l.t) × (l.t ≤ l.job.board.tracks + 1) × (l.p ≡ progressTo (job_of l.job) (l.t - 1)) × (length l.flags ≡ 557056)
 
 abbrev pub decreases-loop-t : goal.decreases-loop-t
 decreases-loop-t l = l.job.board.tracks + 1 - l.t

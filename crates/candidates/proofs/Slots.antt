@@ -181,7 +181,7 @@ module _ (job : Job) (t : ℕ) where
       )
 
 -- the arrays and the flags hold the candidates
-pub gathered : (job : Job) (earlier : List ℕ) (t : ℕ) (c : Candidates) (before after : List ℕ) → AcceptedJob job → 557056 ≤ length before
+pub gathered : (job : Job) (earlier : List ℕ) (t : ℕ) (c : Candidates) (before after : List ℕ) → AcceptedJob job → length job.nets * 1088 ≤ length before
     → c ≡ arraysOf job.board (candidatesOf job earlier) → after ≡ flagSlots job t 0 (candidatesOf job earlier) before → Gathered job earlier t c after
 unfolding candidatesOf arraysOf
 gathered job earlier t c before after a room e f =

@@ -1,5 +1,5 @@
 -- Candidates gathered of an accepted job are within the bounds that `fill` asks for. Assumes nothing.
-use Prim.Native.Nat.{ℕ, suc, ◌+◌, ◌≤◌, ◌<◌}
+use Prim.Native.Nat.{◌*◌, ℕ, suc, ◌+◌, ◌≤◌, ◌<◌}
 use mathlib.Core.Path.{refl, subst}
 use mathlib.Core.List.{List, [], ◌∷◌, Memᴰ}
 use native.Mathlib.Omega.{arith}
@@ -46,7 +46,7 @@ module _ (job : Job) (earlier : List ℕ) (t : ℕ) (c : Candidates) (flags : Li
       let s' = subst (λ l. Slots job t c flags i l × (k < i + length l)) (candidates-other job earlier x n ns e) s in
       slots-bounds b ns (suc x) i k (λ m l. a m (Memᴰ.tail l)) s' h)
 
-  pub gathered-bounds : AcceptedJob job → Gathered job earlier t c flags → 557056 ≤ length flags → InBounds c flags job.board.rows
+  pub gathered-bounds : AcceptedJob job → Gathered job earlier t c flags → length job.nets * 1088 ≤ length flags → InBounds c flags job.board.rows
   unfolding candidatesOf
   gathered-bounds a g f =
       let m = candidates-length job earlier job.nets 0 in

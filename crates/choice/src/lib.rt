@@ -136,9 +136,9 @@ fn row_pick<'a>(
 
 // The plan of a track from its candidates: best(j) and the choice for each row j, from the last row up. Where j enters a band of
 // rows, the candidates that have a top in it are listed, so that no row looks at the others; `start` is the first row of that band.
-pub fn fill(c: &Candidates, flags: &[u8], rows: usize) -> TrackPlan
-    requires { InBounds c.now flags.now rows }
-    ensures { result ≡ filledPlan c.now flags.now rows }
+pub fn fill(c: Candidates, flags: &[u8], rows: usize) -> TrackPlan
+    requires { InBounds c flags.now rows }
+    ensures { result ≡ filledPlan c flags.now rows }
 {
     let mut best = [0usize; 1026];
     let mut choice = [512usize; 1024];

@@ -4,7 +4,7 @@ use mathlib.Core.Path.{◌≡◌, refl, sym, ap, ◌∙◌}
 use mathlib.Core.Bool.{Bool, true, false}
 use mathlib.Core.List.{List, [], ◌∷◌, ◌++◌}
 use native.Mathlib.Omega.{arith}
-use lib.ListN.{length, get_or, take}
+use lib.ListN.{length-take, length, get_or, take}
 use lib.Seq.{length-take-le, get_or-take}
 use Rattle.lists.proofs.Places.{take_more}
 use Rattle.board.specs.declared.Net.{Net}
@@ -90,7 +90,7 @@ module _ (s : StoredJob) (accepted : AcceptedStored s) (net-size : length s.nets
         record { arrays = rw same p.arrays; size = p.size; bytes = λ t map. rw same (p.bytes t map) }
 
     -- an eligible net
-    pub passed-take : 557056 ≤ length before → Passed s placed words before found flags i → eligibleAt (get_or (precedingOf (job_of s)) i 0) placed i ≡ true
+    pub passed-take : s.nnets * 1088 ≤ length before → Passed s placed words before found flags i → eligibleAt (get_or (precedingOf (job_of s)) i 0) placed i ≡ true
         → (tops : NetTops) → TopsOf s.board (get_or s.nets i noNet) tops → (after : List ℕ)
         → after ≡ onPart found.count (flagTops (λ top. allUnset words top tops.need) tops.first.0 (tops.last.0 + 1 - tops.first.0)) flags
         → Passed s placed words before (withSlot found (record { index = i; net = get_or s.nets i noNet }) tops) after (i + 1)
@@ -123,7 +123,7 @@ module _ (s : StoredJob) (accepted : AcceptedStored s) (net-size : length s.nets
         }
 
   -- after all nets
-  pub passed-all : (t : ℕ) → MapOf (job_of s) t words → 557056 ≤ length before → i ≤ s.nnets → s.nnets ≤ i
+  pub passed-all : (t : ℕ) → MapOf (job_of s) t words → s.nnets * 1088 ≤ length before → i ≤ s.nnets → s.nnets ≤ i
       → Passed s placed words before found flags i → GatheredFrom (job_of s) placed t before found flags
   unfolding candidatesOf
   passed-all t map room a b p =
@@ -137,7 +137,7 @@ module _ (s : StoredJob) (accepted : AcceptedStored s) (net-size : length s.nets
         gathered = λ earlier is.
             let same : candidatesOf (job_of s) all ≡ candidatesOf (job_of s) earlier =
             same-candidates (job_of s) accepted.accepted placed all earlier (placed-numbers (job_of s) placed accepted.accepted) is in
-            gathered (job_of s) earlier t found before flags accepted.accepted room
+            gathered (job_of s) earlier t found before flags accepted.accepted (omega (arith, length-take s.nnets s.nets))
             (arrays ∙ ap (λ xs. arraysOf s.board xs) same)
             (bytes ∙ ap (λ xs. flagSlots (job_of s) t 0 xs before) same);
       }

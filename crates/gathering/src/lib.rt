@@ -1,7 +1,7 @@
 // Gathers the candidates for a track: its eligible nets, with what the choice needs of each.
 #![tactic(auto)]
 
-ghost use Rattle.std.specs.Prelude.{◌≡◌, false, [], ℕ, ◌+◌, ◌-◌, ◌≤◌, ◌<◌, length};
+ghost use Rattle.std.specs.Prelude.{◌*◌, ◌≡◌, false, [], ℕ, ◌+◌, ◌-◌, ◌≤◌, ◌<◌, length};
 ghost use Rattle.board.specs.declared.Board.{Board};
 ghost use Rattle.board.specs.Stored.{job_of, AcceptedStored};
 ghost use Rattle.blockmap.specs.Bits.{is_set};
@@ -19,7 +19,7 @@ use toptable::{tops_in, tops_table};
 fn flag_part(map: BlockMap, any: bool, tops: NetTops, i: usize, flags: &mut [u8])
     requires row_value { any ≡ false → (row : ℕ) → is_set map.words row ≡ false }
     requires le_first { (1 ≤ tops.first.0) × (tops.first.0 ≤ tops.last.0) × (1 ≤ tops.need) × (tops.last.0 + tops.need ≤ 1025) }
-    requires i_bound { (i < 512) × (557056 ≤ length flags.old) }
+    requires i_bound { i * 1088 + 1024 ≤ length flags.old }
     ensures { flags.new ≡ onPart i (flagTops (λ top. allUnset map.words top tops.need) tops.first.0 (tops.last.0 + 1 - tops.first.0)) flags.old }
 {
     let from = i * 1088;
@@ -57,7 +57,7 @@ pub fn gather(
 ) -> Candidates
     requires accepted_stored { AcceptedStored job.now }
     requires before_value { before.now ≡ precedingOf (job_of job.now) }
-    requires in_bounds { 557056 ≤ length flags.old }
+    requires in_bounds { job.now.nnets * 1088 ≤ length flags.old }
     ensures { GatheredFrom (job_of job.now) placed.now track.0 flags.old result flags.new }
 {
     // Lent as a slice only to tell the proof that the job has 512 slots for nets.

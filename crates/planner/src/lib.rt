@@ -1,7 +1,7 @@
 // The plan of a job by value: tracks 1 to K in order, each chosen with the nets of the tracks before it held.
 #![tactic(auto)]
 
-ghost use Rattle.std.specs.Prelude.{◌≡◌};
+ghost use Rattle.std.specs.Prelude.{◌≡◌, ◌*◌, ◌≤◌, length};
 ghost use Rattle.board.specs.Accepted.{AcceptedJob};
 ghost use Rattle.board.specs.Stored.{job_of};
 ghost use Rattle.board.specs.Stored.{AcceptedStored};
@@ -92,23 +92,62 @@ fn no_progress() -> Progress
     }
 }
 
-// The plan of a job: its tracks filled in order 1 to K. No track of it is beaten, and each wire is at its shortest length.
-pub fn plan_job(job: &StoredJob) -> JobPlan
-    requires { AcceptedStored job.now }
+// The plan of a job: its tracks filled in order 1 to K, with flags for all its nets.
+fn plan_tracks(job: &StoredJob, flags: &mut [u8]) -> JobPlan
+    requires accepted_stored { AcceptedStored job.now }
+    requires flags_room { job.now.nnets * 1088 ≤ length flags.old }
     ensures answer { result ≡ jobPlanOf (job_of job.now) }
     ensures best { BestPlan (job_of job.now) result }
 {
     let before = preceding(job);
-    let mut flags = [0u8; 557056];
     let mut p = no_progress();
     let mut t = 1;
     while t <= job.board.tracks {
-        let c = gather(job, &before, &p.placed, Track(t), &mut flags);
-        let plan = fill(&c, &flags, job.board.rows);
+        let c = gather(job, &before, &p.placed, Track(t), flags);
+        let plan = fill(c, flags, job.board.rows);
         record_track(&mut p, job, &plan, Track(t));
         t += 1;
     }
     let nets = p.nets;
     let sums = p.sums;
     JobPlan { nets, sums }
+}
+
+// The plan of a job of at most 64 nets. What the flags cost to clear would be most of the time of a small job.
+fn plan_few(job: &StoredJob) -> JobPlan
+    requires accepted_stored { AcceptedStored job.now }
+    requires few { job.now.nnets ≤ 64 }
+    ensures answer { result ≡ jobPlanOf (job_of job.now) }
+    ensures best { BestPlan (job_of job.now) result }
+{
+    let mut flags = [0u8; 69632];
+    plan_tracks(job, &mut flags)
+}
+
+// Room for the flags of 512 nets.
+fn all_flags() -> [u8; 557056] {
+    [0u8; 557056]
+}
+
+// The plan of a job of any number of nets.
+fn plan_many(job: &StoredJob) -> JobPlan
+    requires { AcceptedStored job.now }
+    ensures answer { result ≡ jobPlanOf (job_of job.now) }
+    ensures best { BestPlan (job_of job.now) result }
+{
+    let mut flags = all_flags();
+    plan_tracks(job, &mut flags)
+}
+
+// The plan of a job. No track of it is beaten, and each wire is at its shortest length.
+pub fn plan_job(job: &StoredJob) -> JobPlan
+    requires { AcceptedStored job.now }
+    ensures answer { result ≡ jobPlanOf (job_of job.now) }
+    ensures best { BestPlan (job_of job.now) result }
+{
+    if job.nnets <= 64 {
+        plan_few(job)
+    } else {
+        plan_many(job)
+    }
 }

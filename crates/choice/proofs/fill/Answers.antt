@@ -8,7 +8,7 @@ pub loop-j-init : goal.loop-j-init
 loop-j-init c = (rows-left-start _ _ _ c.requires, λ h. absurd (omega arith))
 
 -- the listed candidates are those of a band in which row j lies
-row-in-band : (c : Joined-j-start) → BandAt c.args.c.now c.if-j-start.listed c.if-j-start.start c.loop-j.j
+row-in-band : (c : Joined-j-start) → BandAt c.args.c c.if-j-start.listed c.if-j-start.start c.loop-j.j
 row-in-band c =
     elim c.if-j-start.branch [
       | then-j-start w ↦ band-entered c.loop-j.j w.start-is w.listed-is w.band_start-from.ensures.1 w.band_of-listed.ensures

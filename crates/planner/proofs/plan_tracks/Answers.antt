@@ -1,8 +1,8 @@
--- `planner::plan_job` meets its contract. Assumes nothing.
-use Prim.Native.Nat.{ℕ, ◌-◌}
+-- `planner::plan_tracks` meets its contract. Assumes nothing.
+use Prim.Native.Nat.{◌-◌}
 use mathlib.Core.Path.{◌≡◌, ap, ◌∙◌}
 use native.Mathlib.Omega.{arith}
-use lib.ListN.{length-replicate}
+use lib.ListN.{length-take}
 use Rattle.board.specs.Stored.{job_of}
 use Rattle.candidates.specs.Gathered.{Gathered}
 use Rattle.choice.proofs.GatheredBounds.{gathered-bounds}
@@ -10,11 +10,11 @@ use Rattle.choice.proofs.FilledPlan.{filled-plan}
 use Rattle.planner.specs.Progressed.{onFirst, progressTo, OnTurn}
 use Rattle.planner.proofs.PlanIsBest.{best-plan}
 use Rattle.planner.proofs.NextTrack.{gathered-first, none-planned, all-planned}
-use Rattle.planner.proofs.plan_job.Goals.{After-gather-c}
-use Rattle.planner.proofs.plan_job.Goals as goal
+use Rattle.planner.proofs.plan_tracks.Goals.{After-gather-c}
+use Rattle.planner.proofs.plan_tracks.Goals as goal
 
 pub loop-t-init : goal.loop-t-init
-loop-t-init c = (omega arith, omega arith, c.no_progress-p.ensures ∙ none-planned (job_of c.args.job.now) c.requires.accepted, length-replicate {A = ℕ} 557056 0)
+loop-t-init c = (omega arith, omega arith, c.no_progress-p.ensures ∙ none-planned (job_of c.args.job.now) c.requires.accepted_stored.accepted, c.requires.flags_room)
 
 -- the track on turn, and its candidates with the nets of the tracks before it held
 on-turn : (c : After-gather-c) → OnTurn (job_of c.args.job.now) c.loop-t.t c.loop-t.p
@@ -25,12 +25,13 @@ held c = gathered-first (job_of c.args.job.now) c.loop-t.t c.loop-t.p _ _ c.gath
 
 pub fill-plan-requires : goal.fill-plan-requires
 fill-plan-requires c =
-    gathered-bounds (job_of c.args.job.now) _ c.loop-t.t c.gather-c.result _ c.requires.accepted (held (goal.at.fill-plan-requires c).After-gather-c) (omega arith)
+    gathered-bounds (job_of c.args.job.now) _ c.loop-t.t c.gather-c.result _ c.requires.accepted_stored.accepted (held (goal.at.fill-plan-requires c).After-gather-c)
+    (omega (arith, length-take c.args.job.now.nnets c.args.job.now.nets))
 
 pub record_track-requires-clause-plan_value : goal.record_track-requires-clause-plan_value
 record_track-requires-clause-plan_value c =
     let g = (goal.at.record_track-requires-clause-plan_value c).After-gather-c in
-    c.fill-plan.ensures ∙ filled-plan (job_of c.args.job.now) _ c.loop-t.t c.gather-c.result _ c.requires.accepted (held g)
+    c.fill-plan.ensures ∙ filled-plan (job_of c.args.job.now) _ c.loop-t.t c.gather-c.result _ c.requires.accepted_stored.accepted (held g)
 
 pub returns-clause-answer : goal.returns-clause-answer
 returns-clause-answer c =
@@ -41,4 +42,4 @@ pub returns-clause-best : goal.returns-clause-best
 returns-clause-best c =
     let e : c.loop-t.t - 1 ≡ c.args.job.now.board.tracks = omega arith in
     let is = all-planned (job_of c.args.job.now) c.loop-t.p (c.loop-t.invariant.2 ∙ ap (progressTo (job_of c.args.job.now)) e) in
-    rw is (best-plan (job_of c.args.job.now) c.requires.accepted)
+    rw is (best-plan (job_of c.args.job.now) c.requires.accepted_stored.accepted)

@@ -10,7 +10,8 @@ use lib.Dec.{leb, ltb}
 use borrow.Author.Tests.{leb-true, leb-false, ltb-true, ltb-false, lt-ltb}
 use Rattle.lists.proofs.Cases.{by-test}
 use Rattle.lists.proofs.Joins.{Each-each}
-use Rattle.lists.proofs.Laws.{allOf-at, EachPair-of, allOf-Each, allPairs-EachPair}
+use Rattle.lists.proofs.Laws.{allOf-at}
+use Rattle.lists.proofs.Tested.{EachPair-of, allOf-Each, allPairs-EachPair}
 use Rattle.board.specs.Job.{Job}
 use Rattle.board.specs.Placement.{Placement, bottom}
 use Rattle.board.specs.Rival.{Apart, Rival}

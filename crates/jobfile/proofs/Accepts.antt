@@ -10,7 +10,8 @@ use lib.Dec.{eqb, leb, ltb}
 use lib.ListN.{length, length-append}
 use borrow.Author.Tests.{leb-true, ltb-true}
 use Rattle.lists.specs.Lists.{Each, EachPair, all_of}
-use Rattle.lists.proofs.Laws.{Each-map, Each-of}
+use Rattle.lists.proofs.Laws.{Each-map}
+use Rattle.lists.proofs.Tested.{Each-of}
 use Rattle.board.specs.declared.Board.{Board}
 use Rattle.board.specs.declared.Net.{Net}
 use Rattle.board.specs.declared.Block.{Block}

@@ -9,7 +9,7 @@ use lib.Dec.{leb}
 use borrow.Author.Tests.{leb-true}
 use lib.ListN.{length, get_or, replicate, get_or-append, get_or-map}
 use Rattle.lists.specs.Lists.{Each, all_of}
-use Rattle.lists.proofs.Laws.{Each-of}
+use Rattle.lists.proofs.Tested.{Each-of}
 use Rattle.keywords.specs.Keywords.{words, word_of}
 use Rattle.keywords.specs.declared.Vocabulary.{Vocabulary}
 use Rattle.keywords.specs.declared.Vocabulary.TheVariants.{Job, Layout}

@@ -8,7 +8,7 @@ use mathlib.Core.List.{List, [], ◌∷◌, Memᴰ}
 use Prim.Native.Nat.{ℕ}
 use lib.Dec.{eqb}
 use borrow.Author.Tests.{eqb-true, eq-eqb}
-use Rattle.lists.specs.Lists.{Each, EachPair, any_of, all_of, allPairs, first_of}
+use Rattle.lists.specs.Lists.{Each, any_of, all_of, first_of}
 use Rattle.lists.proofs.Cases.{by-test, and_split, and_both}
 
 module _ {A : Type 0} where
@@ -36,29 +36,6 @@ module _ {A : Type 0} where
   allOf-of f [] h = refl
   allOf-of f (y ∷ ys) h =
       and_both (f y) (all_of f ys) (h y (Memᴰ.head refl)) (allOf-of f ys (λ x m. h x (Memᴰ.tail m)))
-
-  pub Each-of : {P : A → Type 0} (f : A → Bool) (xs : List A) → ((x : A) → f x ≡ true → P x) → all_of f xs ≡ true → Each P xs
-  unfolding all_of
-  Each-of f [] g h = tt
-  Each-of f (x ∷ xs) g h = let s = and_split (f x) (all_of f xs) h in (g x s.0, Each-of f xs g s.1)
-
-  pub EachPair-of : {R : A → A → Type 0} (f : A → A → Bool) (xs : List A) → ((x y : A) → f x y ≡ true → R x y) → allPairs f xs ≡ true → EachPair R xs
-  unfolding allPairs
-  EachPair-of f [] g h = tt
-  EachPair-of f (x ∷ xs) g h =
-      let s = and_split (all_of (f x) xs) (allPairs f xs) h in
-      (Each-of (f x) xs (g x) s.0, EachPair-of f xs g s.1)
-
-  -- and back: a statement of every element passes the test of every element
-  pub allOf-Each : {P : A → Type 0} (f : A → Bool) (xs : List A) → ((x : A) → P x → f x ≡ true) → Each P xs → all_of f xs ≡ true
-  unfolding all_of
-  allOf-Each f [] g a = refl
-  allOf-Each f (x ∷ xs) g a = and_both (f x) (all_of f xs) (g x a.0) (allOf-Each f xs g a.1)
-
-  pub allPairs-EachPair : {R : A → A → Type 0} (f : A → A → Bool) (xs : List A) → ((x y : A) → R x y → f x y ≡ true) → EachPair R xs → allPairs f xs ≡ true
-  unfolding allPairs
-  allPairs-EachPair f [] g a = refl
-  allPairs-EachPair f (x ∷ xs) g a = and_both (all_of (f x) xs) (allPairs f xs) (allOf-Each (f x) xs (g x) a.0) (allPairs-EachPair f xs g a.1)
 
   -- what `first_of` answers
   pub firstOf-some : (f : A → Bool) (xs : List A) (x : A) → first_of f xs ≡ some x → (Memᴰ x xs) × (f x ≡ true)

@@ -2,18 +2,15 @@
 -- its step at each row is the one of document 01. Assumes nothing.
 use Prim.Native.Nat.{ℕ, zero, suc, ◌+◌, ◌-◌, ◌≤◌, ◌<◌}
 use mathlib.Core.Path.{◌≡◌, refl, sym, ap, ◌∙◌}
-use mathlib.Core.Logic.{⊎_elim}
-use mathlib.Core.Bool.{Bool, true, true≢false}
-use mathlib.Core.Option.{Option, none, some, some-injective, none-ne-some}
-use mathlib.Core.List.Memᴰ
+use mathlib.Core.Bool.{true}
+use mathlib.Core.Option.{Option, none, some, none-ne-some}
 use mathlib.Core.List.{List, [], ◌∷◌, Memᴰ}
 use native.Mathlib.Omega.{arith}
-use lib.Dec.{eqb}
 use borrow.Author.Tests.{eq-eqb}
 use lib.ListN.{get_or}
-use Rattle.lists.specs.Lists.{Each, EachPair, first_of}
-use Rattle.lists.proofs.Cases.{by-test, by-option, and_both}
-use Rattle.lists.proofs.Laws.{Each-map, Each-at}
+use Rattle.lists.specs.Lists.{Each, EachPair}
+use Rattle.lists.proofs.Cases.{by-option, and_both}
+use Rattle.lists.proofs.Laws.{Each-map}
 use Rattle.board.specs.declared.Net.{Net}
 use Rattle.board.specs.Length.{Allowed, shortest, needed}
 use Rattle.board.specs.Weight.{weight}
@@ -28,25 +25,7 @@ use Rattle.packing.specs.Step.{LargestSum, ReachesBest, WalkStep, goes_on, takes
 use Rattle.packing.proofs.Fitting.{fits-placeable, placeable-fits, fits-within}
 use Rattle.packing.proofs.UpperBound.{rival-bound, table_at}
 use Rattle.packing.proofs.WalkIsRival.{Chosen, choice-none, choice-some, walk-walked, bestLast-zero}
-
--- the first net that passes a test has the lowest number of all that pass it, where numbers rise
-pub firstOf-lowest : (f : Net → Bool) (ns : List Net) (n m : Net) → EachPair (λ a b. a.number < b.number) ns →
-    first_of f ns ≡ some n → Memᴰ m ns → f m ≡ true → n.number ≤ m.number
-unfolding first_of
-firstOf-lowest f [] n m r h i t = absurd (Memᴰ.not-nil i)
-firstOf-lowest f (x ∷ xs) n m r h i t =
-    by-test (f x)
-    (λ e.
-    let q : x ≡ n = some-injective x n (rw e at h) in
-    let l : x.number ≤ m.number = ⊎_elim
-    (λ (p : m ≡ x). let z : x.number ≡ m.number = cc in omega arith)
-    (λ i'. let z = Each-at (λ y. x.number < y.number) xs m r.0 i' in omega arith)
-    (Memᴰ.cases_cons i) in
-    rw q at l)
-    (λ e. ⊎_elim
-    (λ (p : m ≡ x). absurd (true≢false (sym t ∙ ap f p ∙ e)))
-    (λ i'. firstOf-lowest f xs n m r.1 (rw e at h) i' t)
-    (Memᴰ.cases_cons i))
+use Rattle.packing.proofs.LowestNet.{choice-lowest}
 
 module _ (job : Job) (earlier : List ℕ) (t : ℕ) where
   -- best(j)
@@ -113,14 +92,6 @@ module _ (job : Job) (earlier : List ℕ) (t : ℕ) where
       let e' : job.board.rows - j - (needed job.board n - 1) ≡ job.board.rows + 1 - (j + needed job.board n) = omega arith in
       let a = last_some (job.board.rows - j) n c in
       ap Last e ∙ (rw (row, walk-skip (job.board.rows - j) (needed job.board n - 1), e') at a)
-
-  pub choice-lowest : (j : ℕ) (n m : Net) → EachPair (λ a b. a.number < b.number) job.nets →
-      Choice j ≡ some n → Memᴰ m job.nets → reaches job earlier t (job.board.rows - j) m ≡ true → n.number ≤ m.number
-  unfolding choiceAt choice
-  choice-lowest j n m r c i h =
-      by-test (eqb (bestLast job earlier t (suc (job.board.rows - j))) (bestLast job earlier t (job.board.rows - j)))
-      (λ e. absurd (none-ne-some n (rw e at c)))
-      (λ e. firstOf-lowest (reaches job earlier t (job.board.rows - j)) job.nets n m r (rw e at c) i h)
 
   -- ---- best(j) is the largest sum of a rival sequence within rows j to H
   best-most : (j : ℕ) (ps : List Placement) → Rival job earlier t ps → Each (λ p. j ≤ p.top) ps → rivalSum ps ≤ Best j
@@ -204,5 +175,5 @@ module _ (job : Job) (earlier : List ℕ) (t : ℕ) where
           by-option (Choice j)
           (λ c. goes_on (last-here ∙ choice-none job earlier t k c ∙ sym last-next) (walk_none j low high c))
           (λ n c.
-          takes n (best-rose n c) (reaches-best n (choice-some job earlier t k n c)) (λ m r. choice-lowest j n m rise c r.of-job (best-reaches m r))
+          takes n (best-rose n c) (reaches-best n (choice-some job earlier t k n c)) (λ m r. choice-lowest job earlier t (job.board.rows - j) n m rise c r.of-job (best-reaches m r))
           (walk-some j n low high c))

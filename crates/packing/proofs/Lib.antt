@@ -2,6 +2,7 @@
 pub mod Fitting
 pub mod UpperBound
 pub mod WalkIsRival
+pub mod LowestNet
 pub mod ByRow
 pub mod OnePass
 pub mod Bounded

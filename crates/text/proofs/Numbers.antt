@@ -62,7 +62,7 @@ tenths P small large n = tenths-below P small large n n (omega arith)
 pub value-append : (acc : ℕ) (s t : List ℕ) → valueFrom acc (s ++ t) ≡ valueFrom (valueFrom acc s) t
 unfolding valueFrom
 value-append acc [] t = refl
-value-append acc (b ∷ s) t = value-append (acc * 10 + (b - 48)) s t
+value-append acc (b ∷ s) t = value-append (valueFrom acc (b ∷ [])) s t
 
 pub value-digits : (n : ℕ) → valueFrom 0 (digits n) ≡ n
 unfolding valueFrom

@@ -67,7 +67,7 @@ module _ (job : Job) (t : ℕ) (on-track : 1 ≤ t) (on-board : t ≤ job.board.
         from_one = (from-one-exact q).0 d.0;
         over-upper = (over-upper-exact q).0 d.1;
         under-lower = (under-lower-exact q).0 c.1;
-        to_last = (to-last-exact job.board q).0 b.1;
+        to_last = omega (arith, (to-last-exact job.board q).0 b.1);
         drawn = λ i. record { number = number i; points = sym points i };
       } in
       rw x.1 at draws

@@ -15,7 +15,7 @@ use Rattle.drc.specs.Judge.{isInPlace, keepsRules}
 use Rattle.drc.specs.BrokenLines.{brokenEnd, brokenFrom, brokenLines}
 use Rattle.drc.proofs.InPlace.{can-stand-of, in_place_of, not-in-place}
 use Rattle.drc.proofs.LineRules.{fails-line, passes_line}
-use Rattle.drc.proofs.FirstBroken.{before-not-behind, in-not-behind}
+use Rattle.drc.proofs.EarlyEnd.{early-before, early-in}
 
 one_line : {l n : ℕ} → Memᴰ l (n ∷ []) → l ≡ n
 one_line m = ⊎_elim (λ e. e) (λ r. absurd (mathlib.Core.List.Memᴰ.not-nil r)) (mathlib.Core.List.Memᴰ.cases_cons m)
@@ -30,8 +30,8 @@ end-listed n behindLayout f = absurd (f refl)
 
 listed-end : (job : Job) (n l : ℕ) (a : Above) → Memᴰ l (brokenEnd n a) → BreachFrom job n a [] l
 unfolding brokenEnd
-listed-end job n l beforeLayout m = rw (one_line m) (stops-early before-not-behind)
-listed-end job n l (inLayout t earlier ws ns) m = rw (one_line m) (stops-early (in-not-behind t earlier ws ns))
+listed-end job n l beforeLayout m = rw (one_line m) (early-before job n)
+listed-end job n l (inLayout t earlier ws ns) m = rw (one_line m) (early-in job n t earlier ws ns)
 listed-end job n l behindLayout m = absurd (mathlib.Core.List.Memᴰ.not-nil m)
 
 -- ---- at a line

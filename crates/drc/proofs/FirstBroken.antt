@@ -9,12 +9,13 @@ use Rattle.lists.specs.Lists.{EachPair}
 use Rattle.lists.proofs.Cases.{by-test, and_split}
 use Rattle.board.specs.Job.{Job}
 use Rattle.board.specs.Accepted.{AcceptedJob}
-use Rattle.layout.specs.Tree.{Wire, Line}
+use Rattle.layout.specs.Tree.{Line}
 use Rattle.drc.specs.Standing.{lines_read, Above, beforeLayout, inLayout, behindLayout, withLine}
 use Rattle.drc.specs.Breach.{BreachFrom, at-line, further-down, out-of-place, ill-formed, stops-early, Breach}
 use Rattle.drc.specs.Judge.{isInPlace, keepsRules, sound-text, broken-at, atTextEnd, judgeFrom, judge}
 use Rattle.drc.proofs.InPlace.{can-stand-of, not-in-place}
 use Rattle.drc.proofs.LineRules.{fails-line, passes_line}
+use Rattle.drc.proofs.EarlyEnd.{early-before, early-in}
 
 -- a broken line stands at or below the first of the lines
 breach-from : {job : Job} {n : ℕ} {a : Above} {ls : List (Option Line)} {l : ℕ} → BreachFrom job n a ls l → n ≤ l
@@ -33,18 +34,12 @@ not_sound n e = let z : ◌≡◌ {A = ℕ} 0 1 = cc in omega arith
 not-broken : (l : ℕ) → sound-text ≡ broken-at l → ⊥
 not-broken l e = let z : ◌≡◌ {A = ℕ} 0 1 = cc in omega arith
 
-pub before-not-behind : beforeLayout ≡ behindLayout → ⊥
-before-not-behind e = let z : ◌≡◌ {A = ℕ} 0 1 = cc in omega arith
-
-pub in-not-behind : (t : ℕ) (earlier : List ℕ) (ws : List Wire) (ns : List ℕ) → inLayout t earlier ws ns ≡ behindLayout → ⊥
-in-not-behind t earlier ws ns e = let z : ◌≡◌ {A = ℕ} 0 1 = cc in omega arith
-
 -- ---- at the end of the text
 
 end-breach : (job : Job) (n : ℕ) (a : Above) (l : ℕ) → atTextEnd n a ≡ broken-at l → BreachFrom job n a [] l
 unfolding atTextEnd
-end-breach job n beforeLayout l h = rw (← same_line n l h) (stops-early before-not-behind)
-end-breach job n (inLayout t earlier ws ns) l h = rw (← same_line n l h) (stops-early (in-not-behind t earlier ws ns))
+end-breach job n beforeLayout l h = rw (← same_line n l h) (early-before job n)
+end-breach job n (inLayout t earlier ws ns) l h = rw (← same_line n l h) (early-in job n t earlier ws ns)
 end-breach job n behindLayout l h = absurd (not-broken l h)
 
 end-first : (n : ℕ) (a : Above) (l : ℕ) → atTextEnd n a ≡ broken-at l → n ≡ l

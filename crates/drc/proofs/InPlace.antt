@@ -5,6 +5,7 @@ use mathlib.Core.Bool.{true, false, ◌&&◌, true≢false, false≢true}
 use mathlib.Core.List.{List, [], ◌∷◌}
 use lib.Dec.{eqb, leb}
 use borrow.Author.Tests.{eqb-true, eq-eqb, leb-true, le-leb}
+use native.Mathlib.Omega.{arith}
 use Rattle.lists.proofs.Cases.{and_split, and_both}
 use Rattle.board.specs.Job.{Job}
 use Rattle.layout.specs.Tree.{Wire, Line, opens, track, wire, loose, closes}
@@ -27,7 +28,7 @@ module _ (job : Job) where
   can-stand-of (inLayout t earlier ws ns) opens h = absurd (false≢true h)
   can-stand-of (inLayout t earlier ws []) (track u s) h =
       let b = and_split (eqb u (suc t)) (leb u job.board.tracks) h in
-      track-in-turn (eqb-true u (suc t) b.0) (leb-true u job.board.tracks b.1)
+      track-in-turn {t = t} {u = u} (omega (arith, eqb-true u (suc t) b.0)) (leb-true u job.board.tracks b.1)
   can-stand-of (inLayout t earlier ws (k ∷ ns)) (track u s) h = absurd (false≢true h)
   can-stand-of (inLayout t earlier ws []) (wire w) h =
       let b = and_split (leb 1 t) (leb t job.board.tracks) h in

@@ -6,9 +6,11 @@ pub mod InPlace
 pub mod Drawings
 pub mod FailedTests
 pub mod SumRule
+pub mod SumBreach
 pub mod LooseRule
 pub mod WireRule
 pub mod LineRules
+pub mod EarlyEnd
 pub mod FirstBroken
 pub mod RulesByLine
 pub mod JudgedTree

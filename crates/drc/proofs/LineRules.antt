@@ -17,7 +17,8 @@ use Rattle.drc.specs.Breach.{LineBreach, false-sum, wire-rule, loose-rule, missi
 use Rattle.drc.specs.Judge.{isInPlace, isTrueSum, keepsRules}
 use Rattle.drc.proofs.FailedTests.{passes-and-fails}
 use Rattle.drc.proofs.InPlace.{under-track}
-use Rattle.drc.proofs.SumRule.{fails-sum, false-sum-fails}
+use Rattle.drc.proofs.SumRule.{false-sum-fails}
+use Rattle.drc.proofs.SumBreach.{fails-sum}
 use Rattle.drc.proofs.WireRule.{wire-kept, fails-wire, kept-unbroken}
 use Rattle.drc.proofs.LooseRule.{fails-loose, passes-loose}
 

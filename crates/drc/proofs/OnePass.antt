@@ -1,6 +1,6 @@
 -- The pass gives the verdict. While no line above is broken it goes with the verdict line by line; behind a broken wire only the sum of
 -- its track is still open. Assumes nothing.
-use Prim.Native.Nat.{ℕ, suc, ◌+◌, ◌≤◌}
+use Prim.Native.Nat.{ℕ, suc, ◌≤◌}
 use mathlib.Core.Path.{◌≡◌, refl, sym, ap, ◌∙◌}
 use mathlib.Core.Bool.{Bool, true, false, cond, not, ◌&&◌, ◌||◌, false≢true}
 use mathlib.Core.Option.{Option, none, some}

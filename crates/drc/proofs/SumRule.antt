@@ -14,11 +14,11 @@ use Rattle.drc.specs.Standing.{inLayout}
 use Rattle.drc.specs.Breach.{EndsWires, next-track, first-loose, last_line, FalseSum}
 use Rattle.drc.specs.Judge.{noneLoose, endsTrack, isInTurn, isInPlace, isTrueSum}
 use Rattle.drc.proofs.FailedTests.{or-fails}
-use Rattle.drc.proofs.InPlace.{can-stand-of, in_place_of}
+use Rattle.drc.proofs.InPlace.{in_place_of}
 
 module _ (job : Job) (u s : ℕ) where
   -- a line that is no wire can stand behind the wires of track u exactly if it ends them
-  ends_of : (x : Line) → EndsWires x → (earlier : List ℕ) (ws : List Wire) → endsTrack job u x ≡ isInPlace job (inLayout u earlier ws []) x
+  pub ends_of : (x : Line) → EndsWires x → (earlier : List ℕ) (ws : List Wire) → endsTrack job u x ≡ isInPlace job (inLayout u earlier ws []) x
   unfolding isInPlace isInTurn noneLoose
   ends_of (track t v) next-track earlier ws = refl
   ends_of (loose k) first-loose earlier ws = refl
@@ -27,14 +27,14 @@ module _ (job : Job) (u s : ℕ) where
   ends_of (wire w) e earlier ws = elim e [ ]
 
   -- a false sum, where `sum` has the wires above the lines ls
-  record SumFails (sum : ℕ) (ls : List (Option Line)) : Type 0 where
-    wires : List Wire
-    next : Line
-    rest : List (Option Line)
-    lines-below : ls ≡ map (λ v. some (wire v)) wires ++ some next ∷ rest
-    ends-wires : EndsWires next
-    ends : endsTrack job u next ≡ true
-    differs : sum + wiresSum job wires ≡ s → ⊥
+  pub record SumFails (sum : ℕ) (ls : List (Option Line)) : Type 0 where
+    pub wires : List Wire
+    pub next : Line
+    pub rest : List (Option Line)
+    pub lines-below : ls ≡ map (λ v. some (wire v)) wires ++ some next ∷ rest
+    pub ends-wires : EndsWires next
+    pub ends : endsTrack job u next ≡ true
+    pub differs : sum + wiresSum job wires ≡ s → ⊥
 
   ends-sum : (sum : ℕ) (x : Line) (ls : List (Option Line)) → EndsWires x → (not (endsTrack job u x) || eqb sum s) ≡ false → SumFails sum (some x ∷ ls)
   unfolding wiresSum sumOver
@@ -50,7 +50,7 @@ module _ (job : Job) (u s : ℕ) where
         differs = λ (e : sum + 0 ≡ s). eqb-false sum s o.1 (omega arith);
       }
 
-  sum-fails : (sum : ℕ) (ls : List (Option Line)) → isTrueSum job u s sum ls ≡ false → SumFails sum ls
+  pub sum-fails : (sum : ℕ) (ls : List (Option Line)) → isTrueSum job u s sum ls ≡ false → SumFails sum ls
   unfolding isTrueSum wiresSum sumOver
   sum-fails sum [] f = absurd (true≢false f)
   sum-fails sum (none ∷ ls) f = absurd (true≢false f)
@@ -68,19 +68,6 @@ module _ (job : Job) (u s : ℕ) where
         ends-wires = r.ends-wires;
         ends = r.ends;
         differs = λ (e : sum + (weightOf job w.number + sumOver (weightOf job) (wireNumbers r.wires)) ≡ s). r.differs (omega arith);
-      }
-
-  pub fails-sum : (earlier : List ℕ) (ls : List (Option Line)) → isTrueSum job u s 0 ls ≡ false → FalseSum job earlier u s ls
-  fails-sum earlier ls f =
-      let r = sum-fails 0 ls f in
-      record {
-        wires = r.wires;
-        next = r.next;
-        rest = r.rest;
-        lines-below = r.lines-below;
-        ends-wires = r.ends-wires;
-        can-stand = can-stand-of job (inLayout u earlier r.wires []) r.next (rw (ends_of r.next r.ends-wires earlier r.wires) at r.ends);
-        differs = λ (e : wiresSum job r.wires ≡ s). r.differs (omega arith);
       }
 
   ended-fails : (sum : ℕ) (x : Line) (ls : List (Option Line)) → EndsWires x → endsTrack job u x ≡ true → (sum ≡ s → ⊥) → isTrueSum job u s sum (some x ∷ ls) ≡ false

@@ -1,7 +1,7 @@
 -- What a pass keeps of the lines above tells as much as they do, as long as none of them is broken. Assumes nothing.
 use Prim.Native.Nat.{ℕ, ◌≤◌, ◌<◌}
 use mathlib.Core.Path.{◌≡◌, refl, sym, ap, ◌∙◌}
-use mathlib.Core.Bool.{true, false, not, ◌&&◌, true≢false, and-false}
+use mathlib.Core.Bool.{true, not, ◌&&◌, true≢false, and-false}
 use mathlib.Core.Option.{none, some}
 use mathlib.Core.List.Memᴰ
 use mathlib.Core.List.{List, [], ◌∷◌, ◌++◌, map, map-append, append_assoc, append-nil}

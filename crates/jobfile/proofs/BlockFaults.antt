@@ -1,9 +1,8 @@
 -- A block is refused for that of its faults which has the smallest number, and added where it has none. Assumes nothing.
 use Prim.Native.Nat.{ℕ, ◌≤◌}
 use mathlib.Core.Path.{◌≡◌, refl}
-use mathlib.Core.List.{List, [], ◌∷◌, Memᴰ}
+use mathlib.Core.List.{Memᴰ}
 use native.Mathlib.Omega.{arith}
-use lib.Dec.{ltb}
 use lib.ListN.{length}
 use borrow.Author.Tests.{ltb-true, ltb-false}
 use Rattle.board.specs.declared.Block.{Block}
@@ -11,11 +10,12 @@ use Rattle.board.specs.Job.{Job}
 use Rattle.board.specs.Accepted.{BlockInRange}
 use Rattle.jobfile.specs.declared.Outcome.{Outcome}
 use Rattle.jobfile.specs.declared.Outcome.TheVariants.{OutOfRange, TooMany}
-use Rattle.jobfile.specs.Read.{State, filled, go, withBlock, blockInRange, addBlock}
+use Rattle.jobfile.specs.Read.{State, filled, withBlock, addBlock}
 use Rattle.jobfile.specs.Answers.{number_of, line_of}
 use Rattle.jobfile.specs.Faults.{BlockFault, block-range, block-count}
 use Rattle.jobfile.proofs.Tests.{denied, block-range-is}
-use Rattle.jobfile.proofs.TestOrder.{Judged, LineTest, test, tested, Rising, Standing, outcomes, tested-judged}
+use Rattle.jobfile.proofs.BlockTests.{blockTests, block-tested, block-rising}
+use Rattle.jobfile.proofs.TestOrder.{Judged, Standing, outcomes, tested-judged}
 
 pub block_at : (job : Job) (b : Block) (k : ℕ) (o : Outcome) → BlockFault job b k o → (line_of o ≡ k) × (3 ≤ number_of o)
 block_at job b k o (block-range x) = (refl, omega arith)
@@ -32,18 +32,7 @@ module _ (job : Job) (b : Block) (k : ℕ) where
   says (block-range x) = x
   says (block-count x) = x
 
-  -- refusals 3 and 4, in this order
-  abbrev blockTests : List LineTest
-  blockTests = test (blockInRange job.board b) (OutOfRange k) ∷ test (ltb (length job.blocks) 256) (TooMany k) ∷ []
-
-  block-tested : addBlock k b job ≡ tested blockTests (go (filled (withBlock job b)))
-  unfolding addBlock
-  block-tested = refl
-
-  block-rising : Rising blockTests
-  block-rising = omega arith
-
-  block-stands : Standing (BlockFault job b k) blockTests
+  block-stands : Standing (BlockFault job b k) (blockTests job b k)
   block-stands = (
     record {
       fails = λ e. block-range (denied _ (block-range-is job.board b) e);
@@ -55,11 +44,11 @@ module _ (job : Job) (b : Block) (k : ℕ) where
     ),
   )
 
-  block-covered : (o : Outcome) → BlockFault job b k o → Memᴰ o (outcomes blockTests)
+  block-covered : (o : Outcome) → BlockFault job b k o → Memᴰ o (outcomes (blockTests job b k))
   block-covered o (block-range x) = Memᴰ.head refl
   block-covered o (block-count x) = Memᴰ.tail (Memᴰ.head refl)
 
   pub block-judged : (G : State → Type 0) → G (filled (withBlock job b)) → Judged (BlockFault job b k) G (addBlock k b job)
   block-judged G g =
-      rw block-tested
-      (tested-judged (BlockFault job b k) G (filled (withBlock job b)) g blockTests block-rising block-stands block-covered)
+      rw (block-tested job b k)
+      (tested-judged (BlockFault job b k) G (filled (withBlock job b)) g (blockTests job b k) (block-rising job b k) block-stands block-covered)

@@ -4,7 +4,9 @@ pub mod Accepts
 pub mod StoredJobs
 pub mod Outcomes
 pub mod TestOrder
+pub mod NetTests
 pub mod NetFaults
+pub mod BlockTests
 pub mod BlockFaults
 pub mod LinesAbove
 pub mod LineFaults

@@ -1,10 +1,10 @@
 -- A net is refused for that of its faults which has the smallest number, and added where it has none. Assumes nothing.
 use Prim.Native.Nat.{ℕ, ◌≤◌, ◌<◌}
 use mathlib.Core.Path.{◌≡◌, refl, ap, ◌∙◌}
-use mathlib.Core.Bool.{Bool, true, false, not}
+use mathlib.Core.Bool.{Bool, true, false}
 use mathlib.Core.List.{List, [], ◌∷◌, Memᴰ}
 use native.Mathlib.Omega.{arith}
-use lib.Dec.{eqb, leb, ltb}
+use lib.Dec.{eqb}
 use lib.ListN.{length}
 use borrow.Author.Tests.{leb-true, leb-false, ltb-true, ltb-false, eqb-true, eqb-false, not-false}
 use Rattle.lists.specs.Lists.{all_of}
@@ -13,17 +13,18 @@ use Rattle.lists.proofs.Laws.{allOf-at}
 use Rattle.board.specs.declared.Net.{Net}
 use Rattle.board.specs.declared.Shape.{Shape}
 use Rattle.board.specs.Job.{Job}
-use Rattle.board.specs.Length.{Allowed, length_of, shortest, needed}
+use Rattle.board.specs.Length.{Allowed, needed}
 use Rattle.board.specs.Accepted.{NetInRange}
 use Rattle.jobfile.specs.declared.Optional.{Optional}
 use Rattle.jobfile.specs.declared.Outcome.{Outcome}
 use Rattle.jobfile.specs.declared.Outcome.TheVariants.{Accepted, TooLong, NotOfForm, OutOfRange, TooMany, NumberNotAbove, PinUsed, SameRow, NoLength, TooFewRows}
-use Rattle.jobfile.specs.Read.{State, filled, go, withNet, weightInRange, netInRange, lastNumber, pinsFree, testNet, isAbove, addNet}
+use Rattle.jobfile.specs.Read.{State, filled, withNet, weightInRange, netInRange, lastNumber, pinsFree, testNet, isAbove, addNet}
 use Rattle.jobfile.specs.Answers.{number_of, line_of}
 use Rattle.jobfile.specs.Faults.{NetFault, net-range, weight-range, net-count, misnumbered, NotAbove, left-used, right-used, same_row, no_length, too-few-rows}
 use Rattle.lists.proofs.Joins.{allOf-false}
 use Rattle.jobfile.proofs.Tests.{denied, differ-is, weight-range-is, net-range-is, last-number, last-net, free-is, length-is}
-use Rattle.jobfile.proofs.TestOrder.{Judged, LineTest, test, tested, Rising, Standing, outcomes, tested-judged}
+use Rattle.jobfile.proofs.NetTests.{netTests, net-tested, net-rising}
+use Rattle.jobfile.proofs.TestOrder.{Judged, Standing, outcomes, tested-judged}
 
 pub net-at : {Misnumbered : Type 0} {job : Job} {n : Net} {w : Optional} {k : ℕ} {o : Outcome} → NetFault Misnumbered job n w k o →
     (line_of o ≡ k) × (3 ≤ number_of o)
@@ -85,26 +86,7 @@ module _ {Misnumbered : Type 0} (job : Job) (n : Net) (w : Optional) (k : ℕ) (
       (λ p. right-used m r.1 (eqb-true _ _ p))
       (λ p. absurd (denied (pinsFree n m) (free-is n m) r.2 (eqb-false _ _ q, eqb-false _ _ p))))
 
-  -- refusals 3 to 9, in this order
-  abbrev netTests : List LineTest
-  netTests =
-      test (netInRange job.board n w) (OutOfRange k) ∷
-      test (ltb (length job.nets) 512) (TooMany k) ∷
-      test numbered (NumberNotAbove k) ∷
-      test (all_of (pinsFree n) job.nets) (PinUsed k) ∷
-      test (not (eqb n.left.0 n.right.0)) (SameRow k) ∷
-      test (leb (length_of job.board n (shortest job.board n)) n.max) (NoLength k) ∷
-      test (leb (needed job.board n) job.board.rows) (TooFewRows k) ∷
-      []
-
-  net-tested : (s : State) → testNet k numbered n w job s ≡ tested netTests (go s)
-  unfolding testNet
-  net-tested s = refl
-
-  net-rising : Rising netTests
-  net-rising = omega arith
-
-  net-stands : Standing Faulty netTests
+  net-stands : Standing Faulty (netTests job n w k numbered)
   net-stands = (
     record { fails = some-range; passes = λ e f. says f e },
     λ e3. (
@@ -127,7 +109,10 @@ module _ {Misnumbered : Type 0} (job : Job) (n : Net) (w : Optional) (k : ℕ) (
                 passes = λ e f. let s = (length-is job.board n).0 e in says f s.0 s.1;
               },
               λ e8. (
-                record { fails = λ e. too-few-rows (omega (arith, leb-false)); passes = λ e f. omega (arith, leb-true, says f) },
+                record {
+                  fails = λ e. too-few-rows (omega (arith, leb-false, ltb-false));
+                  passes = λ e f. omega (arith, leb-true, ltb-true, says f);
+                },
                 λ e9. tt,
               ),
             ),
@@ -137,7 +122,7 @@ module _ {Misnumbered : Type 0} (job : Job) (n : Net) (w : Optional) (k : ℕ) (
     ),
   )
 
-  net-covered : (o : Outcome) → Faulty o → Memᴰ o (outcomes netTests)
+  net-covered : (o : Outcome) → Faulty o → Memᴰ o (outcomes (netTests job n w k numbered))
   net-covered o (net-range x) = Memᴰ.head refl
   net-covered o (weight-range x) = Memᴰ.head refl
   net-covered o (net-count x) = search (Memᴰ.head, Memᴰ.tail) depth 9
@@ -149,7 +134,8 @@ module _ {Misnumbered : Type 0} (job : Job) (n : Net) (w : Optional) (k : ℕ) (
   net-covered o (too-few-rows x) = search (Memᴰ.head, Memᴰ.tail) depth 9
 
   pub test-judged : (G : State → Type 0) (s : State) → G s → Judged Faulty G (testNet k numbered n w job s)
-  test-judged G s g = rw (net-tested s) (tested-judged Faulty G s g netTests net-rising net-stands net-covered)
+  test-judged G s g = rw (net-tested job n w k numbered s)
+      (tested-judged Faulty G s g (netTests job n w k numbered) (net-rising job n w k numbered) net-stands net-covered)
 
 -- the number of a net on a line
 some-above : (n : Net) (ns : List Net) → 1 ≤ n.number → isAbove n ns ≡ false → NotAbove ns n

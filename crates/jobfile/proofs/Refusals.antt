@@ -164,16 +164,16 @@ module _ (text : List ℕ) where
   answered (refused o) h r =
       record {
         fault = in-fault o r.fault;
-        first-line = λ p q. r.first-line p (fault-in h p q);
+        first-line = λ p q. omega (arith, r.first-line p (fault-in h p q));
         first-number = λ p q e. r.first-number p (fault-in h p q) e;
       }
 
   long-answered : 64000 < length text → Answered (refused TooLong)
-  long-answered h = record { fault = too_long h; first-line = λ p q. omega arith; first-number = λ p q e. fault-from p q }
+  long-answered h = record { fault = too_long (omega arith); first-line = λ p q. omega arith; first-number = λ p q e. fault-from p q }
 
   read-answered : Answered (readJob text)
   read-answered =
-      read-cases text Answered (λ h. answered (readFrom 1 start (lines text)) h lines-right) (λ h. long-answered h)
+      read-cases text Answered (λ h. answered (readFrom 1 start (lines text)) (omega arith) lines-right) (λ h. long-answered (omega arith))
 
   -- a refused text has the fault that the answer names, none on a line before, and none of a smaller number on that line
   pub read-refused : (o : Outcome) → readJob text ≡ refused o → FirstFault text o

@@ -1,0 +1,36 @@
+-- The tests of a net, refusals 3 to 9, in their order. Assumes nothing.
+use Prim.Native.Nat.{ℕ}
+use mathlib.Core.Path.{◌≡◌, refl}
+use mathlib.Core.Bool.{Bool, not}
+use mathlib.Core.List.{List, [], ◌∷◌}
+use native.Mathlib.Omega.{arith}
+use lib.Dec.{eqb, leb, ltb}
+use lib.ListN.{length}
+use Rattle.lists.specs.Lists.{all_of}
+use Rattle.board.specs.declared.Net.{Net}
+use Rattle.board.specs.Job.{Job}
+use Rattle.board.specs.Length.{length_of, shortest, needed}
+use Rattle.jobfile.specs.declared.Optional.{Optional}
+use Rattle.jobfile.specs.declared.Outcome.TheVariants.{OutOfRange, TooMany, NumberNotAbove, PinUsed, SameRow, NoLength, TooFewRows}
+use Rattle.jobfile.specs.Read.{State, go, netInRange, pinsFree, testNet}
+use Rattle.jobfile.proofs.TestOrder.{LineTest, test, tested, Rising}
+
+module _ (job : Job) (n : Net) (w : Optional) (k : ℕ) (numbered : Bool) where
+  -- refusals 3 to 9, in this order
+  abbrev pub netTests : List LineTest
+  netTests =
+      test (netInRange job.board n w) (OutOfRange k) ∷
+      test (ltb (length job.nets) 512) (TooMany k) ∷
+      test numbered (NumberNotAbove k) ∷
+      test (all_of (pinsFree n) job.nets) (PinUsed k) ∷
+      test (not (eqb n.left.0 n.right.0)) (SameRow k) ∷
+      test (leb (length_of job.board n (shortest job.board n)) n.max) (NoLength k) ∷
+      test (leb (needed job.board n) job.board.rows) (TooFewRows k) ∷
+      []
+
+  pub net-tested : (s : State) → testNet k numbered n w job s ≡ tested netTests (go s)
+  unfolding testNet
+  net-tested s = refl
+
+  pub net-rising : Rising netTests
+  net-rising = omega arith

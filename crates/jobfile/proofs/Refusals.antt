@@ -165,11 +165,11 @@ module _ (text : List ℕ) where
       record {
         fault = in-fault o r.fault;
         first-line = λ p q. omega (arith, r.first-line p (fault-in h p q));
-        first-number = λ p q e. r.first-number p (fault-in h p q) e;
+        first-number = λ p q e. omega (arith, r.first-number p (fault-in h p q) e);
       }
 
   long-answered : 64000 < length text → Answered (refused TooLong)
-  long-answered h = record { fault = too_long (omega arith); first-line = λ p q. omega arith; first-number = λ p q e. fault-from p q }
+  long-answered h = record { fault = too_long (omega arith); first-line = λ p q. omega arith; first-number = λ p q e. omega (arith, fault-from p q) }
 
   read-answered : Answered (readJob text)
   read-answered =

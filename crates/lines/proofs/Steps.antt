@@ -7,7 +7,6 @@ use native.Mathlib.Decide.{dec_le, dec_lt}
 use native.Mathlib.Nat.{add-sub_cancel_left}
 use lib.ListN.{length, take, drop, length-drop, drop_of_length-le}
 use lib.Seq.{drop-drop}
-use borrow.Author.Tests.{lt-ltb, le-ltb}
 use Rattle.lists.proofs.Cases.{by-test}
 use Rattle.text.specs.Bytes.{isEnd, joined, pieces, lines}
 use Rattle.lines.specs.declared.Place.{Place}
@@ -15,16 +14,7 @@ use Rattle.lines.specs.declared.Step.TheVariants.{Line, End}
 use Rattle.lines.specs.Places.{until, scan, lineEnd, stepAt, stepLines}
 use Rattle.lines.specs.Stepped.{Stepped}
 use Rattle.lines.proofs.Scans.{until-le}
-
--- the two answers of a step
-
-pub step_end : (s : List ℕ) (p : Place) → length s ≤ p.at → End ≡ stepAt s p
-unfolding stepAt
-step_end s p h = rw (le-ltb p.at (length s) h)
-
-pub step_line : (s : List ℕ) (p : Place) (to next : ℕ) → p.at < length s → to ≡ lineEnd s p.at → next ≡ min (to + 1) (length s) → Line p.at to (record { at = next; passed = p.passed + 1 }) ≡ stepAt s p
-unfolding stepAt
-step_line s p to next h e f = rw (lt-ltb p.at (length s) h, f, e)
+use Rattle.lines.proofs.StepAnswers.{step_end, step_line}
 
 -- a step passes the first of the lines that are left
 

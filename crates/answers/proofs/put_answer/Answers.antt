@@ -1,6 +1,6 @@
 -- `answers::put_answer` meets its contract. Assumes nothing.
 use mathlib.Core.Path.{refl}
-use Rattle.answers.proofs.Answering.{small-for, written-for}
+use Rattle.answers.proofs.ByRoom.{small-for, written-for}
 use Rattle.answers.proofs.put_answer.Goals as goal
 
 pub returns-then-out-needed : goal.returns-then-out-needed

@@ -1,6 +1,6 @@
 -- `lines::Place::next_line` meets its contract. Assumes nothing.
 use native.Mathlib.Omega.{arith}
-use Rattle.lines.proofs.Steps.{step_end, step_line}
+use Rattle.lines.proofs.StepAnswers.{step_end, step_line}
 use Rattle.lines.proofs.Place.next_line.Goals as goal
 use Rattle.lines.proofs.Place.next_line.Goals.{then-to-s, else-to-s}
 

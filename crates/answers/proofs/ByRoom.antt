@@ -1,0 +1,59 @@
+-- What the test of the room decides: the answer and the buffer where a text has more bytes than the buffer, and where it is copied; the
+-- document's values of both, that both are right, and what holds of the bytes written. Assumes nothing.
+use Prim.Native.Nat.{ℕ, ◌≤◌, ◌<◌}
+use mathlib.Core.Path.{◌≡◌, refl}
+use mathlib.Core.List.{List}
+use native.Mathlib.Omega.{arith}
+use lib.Dec.{leb}
+use lib.ListN.{length, drop}
+use lib.Seq.{take-append_seam}
+use borrow.Author.Tests.{leb-true, leb-false, le-leb, lt-leb}
+use Rattle.lists.proofs.Cases.{by-test}
+use Rattle.board.specs.Job.{Job}
+use Rattle.board.specs.Accepted.{AcceptedJob}
+use Rattle.text.specs.Written.{Written}
+use Rattle.jobfile.specs.Read.{Read, accepted, refused, readJob}
+use Rattle.jobfile.proofs.Accepts.{read-accepted}
+use Rattle.jobfile.proofs.Refusals.{read-refused, read-faultless}
+use Rattle.answers.specs.declared.TextAnswer.TheVariants as Is
+use Rattle.answers.specs.Answers.{answerValues, documentValues, answerFor, bufferFor, textAnswer, bufferAfter, RightFor, OfWritten}
+
+-- ---- the copy into the buffer
+
+pub small-for : (t before : List ℕ) {n : ℕ} → n ≡ length t → length before < n → (Is.TooSmall n ≡ answerFor t (length before)) × (before ≡ bufferFor t before)
+unfolding answerFor bufferFor
+small-for t before e l = rw (e, lt-leb (length t) (length before) (omega (arith, l, e))) (refl, refl)
+
+pub written-for : (t before : List ℕ) {after : List ℕ} {n : ℕ} → Written t before after n → length t ≤ length before →
+    (Is.Written n ≡ answerFor t (length before)) × (after ≡ bufferFor t before)
+unfolding answerFor bufferFor
+written-for t before w l = rw (w.used, w.bytes, le-leb (length t) (length before) l) (refl, refl)
+
+-- ---- by what the job file is read as
+
+module _ (text : Job → List ℕ) (file before : List ℕ) where
+  -- the document's values
+  pub values-by : (y : Read) → answerValues (textAnswer text y (length before)) ≡ documentValues text y (length before)
+  unfolding textAnswer documentValues answerFor
+  values-by (refused o) = refl
+  values-by (accepted job) = by-test (leb (length (text job)) (length before)) (λ e. rw e refl) (λ e. rw e refl)
+
+  module _ (Length : Job → ℕ → Type 0) (short : (job : Job) → AcceptedJob job → length (text job) ≤ 64000)
+      (measured : (job : Job) → AcceptedJob job → Length job (length (text job))) where
+    pub right_by : (y : Read) → readJob file ≡ y → RightFor Length file (length before) (textAnswer text y (length before))
+    unfolding textAnswer answerFor
+    right_by (refused o) e = read-refused file o e
+    right_by (accepted job) e =
+        let a = read-accepted file job e in
+        by-test (leb (length (text job)) (length before))
+        (λ q. rw q (read-faultless file job e, leb-true (length (text job)) (length before) q, short job a))
+        (λ q. rw q (read-faultless file job e, omega (arith, leb-false (length (text job)) (length before) q), short job a, rw e (measured job a)))
+
+  pub held_by : (P : Job → List ℕ → Type 0) → ((job : Job) → AcceptedJob job → P job (text job)) →
+      (y : Read) → readJob file ≡ y → OfWritten P y (textAnswer text y (length before)) (bufferAfter text y before)
+  unfolding textAnswer bufferAfter answerFor bufferFor
+  held_by P p (refused o) e = tt
+  held_by P p (accepted job) e =
+      by-test (leb (length (text job)) (length before))
+      (λ q. rw (q, take-append_seam (text job) (drop (length (text job)) before)) (p job (read-accepted file job e)))
+      (λ q. rw q tt)

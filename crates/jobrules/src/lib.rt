@@ -167,26 +167,23 @@ pub fn no_pins() -> UsedPins
 }
 
 // The pins of one more net are used.
-pub fn with_pins(used: UsedPins, net: Net) -> UsedPins
+pub fn with_pins(used: &mut UsedPins, net: Net)
     requires { RowsInRange net }
-    ensures { (nets : List Net) → PinsOf nets used → PinsOf (nets ++ (net ∷ [])) result }
+    ensures { (nets : List Net) → PinsOf nets used.old → PinsOf (nets ++ (net ∷ [])) used.new }
 {
-    let left = blockmap::with_row(used.left, net.left);
-    let right = blockmap::with_row(used.right, net.right);
-    UsedPins { left, right }
+    used.left = blockmap::with_row(used.left, net.left);
+    used.right = blockmap::with_row(used.right, net.right);
 }
 
 // Refusal 6: whether neither pin of a net is used.
-fn are_pins_free(used: UsedPins, net: Net) -> bool
+fn are_pins_free(used: &UsedPins, net: Net) -> bool
     requires { RowsInRange net }
-    ensures { (nets : List Net) → PinsOf nets used → result ≡ all_of (pinsFree net) nets }
+    ensures { (nets : List Net) → PinsOf nets used.now → result ≡ all_of (pinsFree net) nets }
 {
-    let left = used.left;
-    if blockmap::is_blocked(&left.words, net.left) {
+    if blockmap::is_blocked(&used.left.words, net.left) {
         return false;
     }
-    let right = used.right;
-    !blockmap::is_blocked(&right.words, net.right)
+    !blockmap::is_blocked(&used.right.words, net.right)
 }
 
 // Refusals 3 to 9 of a net and the weight that it is given, the first that fits, on a board with so many nets and their pins. Whether it passes
@@ -194,14 +191,14 @@ fn are_pins_free(used: UsedPins, net: Net) -> bool
 pub fn net_outcome(
     size: Board,
     count: usize,
-    used: UsedPins,
+    used: &UsedPins,
     net: Net,
     weight: Optional,
     numbered: bool,
     line: usize,
 ) -> Outcome
     requires { BoardInRange size }
-    ensures { (job : Job) (s : State) → NetsAbove job size count used → result ≡ outcomeOf (testNet line numbered net weight job s) }
+    ensures { (job : Job) (s : State) → NetsAbove job size count used.now → result ≡ outcomeOf (testNet line numbered net weight job s) }
 {
     if !is_net_in_range(size, net, weight) {
         return Outcome::OutOfRange(line);

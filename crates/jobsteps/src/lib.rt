@@ -1,4 +1,4 @@
-// The step over a line of a job: what the lines above come to, by value, what a line below them is refused for, and what it adds.
+// The step over a line of a job: what the lines above come to, what a line below them is refused for, and what it adds.
 #![tactic(auto)]
 
 ghost use Rattle.std.specs.Prelude.{◌≡◌, ◌<◌};
@@ -30,7 +30,7 @@ const FILLED: usize = 3;
 pub const CLOSED: usize = 4;
 
 // What the lines above come to, but for the nets and blocks themselves: the stage, the size of the board, how many nets and blocks there
-// are, the number of the last net, and the pins that the nets use. It goes by value, some 300 bytes, where the job has 31,000.
+// are, the number of the last net, and the pins that the nets use. It goes by reference, as its some 300 bytes would be copied for each line.
 #[derive(Clone, Copy)]
 pub struct LinesAbove {
     pub stage: usize,
@@ -64,49 +64,36 @@ pub fn nothing_above() -> LinesAbove
     }
 }
 
-// What is held behind a net more.
-pub fn net_after(above: LinesAbove, net: Net) -> LinesAbove
-    requires { (above.nnets < 512) × RowsInRange net }
-    ensures { NetAfter above net result }
+// Holds a net more.
+pub fn net_after(above: &mut LinesAbove, net: Net)
+    requires { (above.old.nnets < 512) × RowsInRange net }
+    ensures { NetAfter above.old net above.new }
 {
-    let used = jobrules::with_pins(above.used, net);
-    LinesAbove {
-        nnets: above.nnets + 1,
-        last: net.number,
-        used,
-        ..above
-    }
+    jobrules::with_pins(&mut above.used, net);
+    above.nnets += 1;
+    above.last = net.number;
 }
 
-// What is held behind a line that gives neither a net nor a block: the next stage, and H and K where the line has them.
-pub fn head_after(above: LinesAbove, form: Form) -> LinesAbove
-    ensures { result ≡ headAfter above form }
+// Holds a line that gives neither a net nor a block: the next stage, and H and K where the line has them.
+pub fn head_after(above: &mut LinesAbove, form: Form)
+    ensures { above.new ≡ headAfter above.old form }
 {
-    let mut next = above;
     match form {
-        Form::Blank => next,
-        Form::Board => {
-            next.stage = OPENED;
-            next
-        }
+        Form::Blank => {}
+        Form::Board => above.stage = OPENED,
         Form::Rows(h) => {
-            next.stage = SIZED;
-            next.board.rows = h;
-            next.board.tracks = 0;
-            next
+            above.stage = SIZED;
+            above.board.rows = h;
+            above.board.tracks = 0;
         }
         Form::Tracks(k) => {
-            next.stage = FILLED;
-            next.board.tracks = k;
-            next
+            above.stage = FILLED;
+            above.board.tracks = k;
         }
-        Form::Net(_, _, _, _, _, _) => next,
-        Form::Block(_, _, _) => next,
-        Form::Close => {
-            next.stage = CLOSED;
-            next
-        }
-        Form::Other => next,
+        Form::Net(_, _, _, _, _, _) => {}
+        Form::Block(_, _, _) => {}
+        Form::Close => above.stage = CLOSED,
+        Form::Other => {}
     }
 }
 
@@ -180,9 +167,9 @@ fn size_outcome(most: usize, x: usize, line: usize) -> Outcome
 }
 
 // Refusals 2 to 9 of a line, the first that fits.
-pub fn form_outcome(above: LinesAbove, form: Form, line: usize) -> Outcome
-    requires { above.stage ≡ 3 → BoardInRange above.board }
-    ensures { (job : StoredJob) → AboveOf above job → result ≡ outcomeOf (step line (state_of above.stage job) form) }
+pub fn form_outcome(above: &LinesAbove, form: Form, line: usize) -> Outcome
+    requires { above.now.stage ≡ 3 → BoardInRange above.now.board }
+    ensures { (job : StoredJob) → AboveOf above.now job → result ≡ outcomeOf (step line (state_of above.now.stage job) form) }
 {
     if !form_stands(above.stage, form) {
         return Outcome::NotOfForm(line);
@@ -198,7 +185,7 @@ pub fn form_outcome(above: LinesAbove, form: Form, line: usize) -> Outcome
             jobrules::net_outcome(
                 above.board,
                 above.nnets,
-                above.used,
+                &above.used,
                 net,
                 weight,
                 numbered,

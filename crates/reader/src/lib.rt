@@ -60,7 +60,7 @@ fn read_lines(text: &[u8]) -> Answer
             return finish(above, slots, line);
         };
         cursor = next;
-        let outcome = form_outcome(above, form, line);
+        let outcome = form_outcome(&above, form, line);
         if jobrules::number_of(outcome) != 0 {
             return refusal(outcome);
         }
@@ -69,16 +69,14 @@ fn read_lines(text: &[u8]) -> Answer
                 let i = above.nnets;
                 let net = jobrules::with_weight(above.board, given, weight);
                 slots.nets[i] = net;
-                above = net_after(above, net);
+                net_after(&mut above, net);
             }
             Entry::OfBlock(block) => {
                 let i = above.nblocks;
                 slots.blocks[i] = block;
                 above.nblocks = i + 1;
             }
-            Entry::Nothing => {
-                above = head_after(above, form);
-            }
+            Entry::Nothing => head_after(&mut above, form),
         }
     }
 }

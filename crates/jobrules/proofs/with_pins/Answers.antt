@@ -3,4 +3,4 @@ use Rattle.jobrules.proofs.Pins.{pins-more}
 use Rattle.jobrules.proofs.with_pins.Goals as goal
 
 pub returns : goal.returns
-returns c = λ nets p. pins-more nets _ _ _ c.with_row-left.ensures c.with_row-right.ensures p
+returns c = λ nets p. pins-more nets _ _ _ c.with_row-used.ensures c.with_row-used-2.ensures p

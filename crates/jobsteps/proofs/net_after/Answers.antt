@@ -10,5 +10,5 @@ returns c =
       board-is = refl;
       nnets-is = refl;
       nblocks-is = refl;
-      nets-are = λ nets p. record { last-is = last-number 0 nets _; pins = c.with_pins-used.ensures nets p.pins };
+      nets-are = λ nets p. record { last-is = last-number 0 nets _; pins = c.with_pins.ensures nets p.pins };
     }

@@ -45,8 +45,8 @@ bounds-slots-i c =
     let z = sym c.number_of.ensures ∙ c.if-number_of-ne0.false in
     left-room _ _ _ _ w _ _ c.in-Read.ensures _ q z _ _ c.in-OfNet.ensures
 
-pub net_after-above-requires : goal.net_after-above-requires
-net_after-above-requires c =
+pub net_after-requires : goal.net_after-requires
+net_after-requires c =
     let w = c.loop-form.invariant in
     let q = c.form_outcome-outcome.ensures _ (left-above _ _ _ _ w) in
     let z = sym c.number_of.ensures ∙ c.if-number_of-ne0.false in
@@ -63,7 +63,7 @@ loop-form-preserved-in-OfNet c =
     let q = c.form_outcome-outcome.ensures _ (left-above _ _ _ _ w) in
     let z = sym c.number_of.ensures ∙ c.if-number_of-ne0.false in
     left-net _ _ _ _ w _ _ c.in-Read.ensures _ q z _ _ c.in-OfNet.ensures _ _
-    (rw (← c.with_weight-net.ensures) c.net_after-above.ensures)
+    (rw (← c.with_weight-net.ensures) c.net_after.ensures)
     (rw (← c.with_weight-net.ensures) refl) refl
 
 pub offset_bounds-slots-i-in-OfBlock : goal.offset_bounds-slots-i-in-OfBlock
@@ -109,4 +109,4 @@ loop-form-preserved c =
     let w = c.loop-form.invariant in
     let q = c.form_outcome-outcome.ensures _ (left-above _ _ _ _ w) in
     let z = sym c.number_of.ensures ∙ c.if-number_of-ne0.false in
-    left-head _ _ _ _ w _ _ c.in-Read.ensures _ q z _ c.in-Nothing.ensures c.head_after-above.ensures
+    left-head _ _ _ _ w _ _ c.in-Read.ensures _ q z _ c.in-Nothing.ensures c.head_after.ensures

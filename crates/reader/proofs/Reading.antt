@@ -19,6 +19,7 @@ use Rattle.lines.specs.Stepped.{Stepped}
 use Rattle.lines.proofs.Steps.{stepped, end-of-lines}
 use Rattle.jobfile.specs.declared.Optional.{Optional}
 use Rattle.jobfile.specs.declared.Form.{Form}
+use Rattle.jobfile.specs.declared.Form.TheVariants as Is
 use Rattle.jobfile.specs.declared.Outcome.{Outcome}
 use Rattle.jobfile.specs.declared.Outcome.TheVariants.{Accepted, TooLong, NotOfForm}
 use Rattle.jobfile.specs.Forms.{readForm}
@@ -134,6 +135,14 @@ module _ (s : List ℕ) (a : LinesAbove) (slots : StoredJob) (p : Cursor) (w : L
           inside = moved.within;
           rest = turn ∙ rw (g.goes, y.0);
         }
+
+    -- a blank line leaves all as it is
+    pub left-blank : x ≡ Is.Blank → LinesLeft s a slots n
+    unfolding step entry_of headAfter outcomeOf
+    left-blank b =
+        left-on a slots
+        (rw b (head-on (p.place.passed + 1) a slots w.held Is.Blank refl refl))
+        w.nets-are
 
     module _ (o : Outcome) (q : o ≡ outcomeOf led) where
       pub left-refused : (number_of o ≡ 0 → ⊥) → answer_of (refused o) ≡ answer_of (readFrom 1 start (lines s))

@@ -13,7 +13,7 @@ ghost use Rattle.jobsteps.specs.LinesAbove.{state_of, Held, jobAbove};
 
 use board::StoredJob;
 use cursor::{Cursor, FormStep};
-use jobfile::{Answer, Outcome};
+use jobfile::{Answer, Form, Outcome};
 use jobsteps::{
     CLOSED, Entry, LinesAbove, entry_of, form_outcome, head_after, net_after, nothing_above,
 };
@@ -60,6 +60,9 @@ fn read_lines(text: &[u8]) -> Answer
             return finish(above, slots, line);
         };
         cursor = next;
+        if let Form::Blank = form {
+            continue;
+        }
         let outcome = form_outcome(&above, form, line);
         if jobrules::number_of(outcome) != 0 {
             return refusal(outcome);

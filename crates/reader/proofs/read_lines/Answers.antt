@@ -2,7 +2,7 @@
 use mathlib.Core.Path.{refl, sym, ap, ◌∙◌}
 use native.Mathlib.Omega.{arith}
 use Rattle.jobfile.specs.Answers.{answer_of}
-use Rattle.reader.proofs.Reading.{left-start, left-above, left-ahead, left-within, left-refused, left-head, left-room, left-given, left-rows, left-net, left-block-room, left-block, left_over}
+use Rattle.reader.proofs.Reading.{left-start, left-above, left-ahead, left-within, left-blank, left-refused, left-head, left-room, left-given, left-rows, left-net, left-block-room, left-block, left_over}
 use Rattle.reader.proofs.read_lines.Goals as goal
 
 pub loop-form-init : goal.loop-form-init
@@ -110,3 +110,12 @@ loop-form-preserved c =
     let q = c.form_outcome-outcome.ensures _ (left-above _ _ _ _ w) in
     let z = sym c.number_of.ensures ∙ c.if-number_of-ne0.false in
     left-head _ _ _ _ w _ _ c.in-Read.ensures _ q z _ c.in-Nothing.ensures c.head_after.ensures
+
+pub loop-form-smaller-in-Blank : goal.loop-form-smaller-in-Blank
+loop-form-smaller-in-Blank c =
+    let w = c.loop-form.invariant in
+    omega (arith, left-ahead _ _ _ _ w _ _ c.in-Read.ensures, left-within _ _ _ _ w _ _ c.in-Read.ensures)
+
+pub loop-form-preserved-in-Blank : goal.loop-form-preserved-in-Blank
+loop-form-preserved-in-Blank c =
+    left-blank _ _ _ _ c.loop-form.invariant _ _ c.in-Read.ensures c.in-Blank.is

@@ -1,4 +1,5 @@
 -- Theorems about the fixed text.
+pub mod BlockTimes
 pub mod BlockOrder
 pub mod HouseLines
 pub mod HouseRead

@@ -5,7 +5,8 @@ use Rattle.board.specs.Accepted.{AcceptedJob}
 use Rattle.house.specs.Blocks.{sortBlocks}
 use Rattle.house.specs.HouseText.{houseLines, houseText, houseJob}
 use Rattle.house.specs.Promises.{ReadsBack, OneText, FixedAgain}
-use Rattle.house.proofs.BlockOrder.{sorted, sorted-times, sorted-moved, sort-same}
+use Rattle.house.proofs.BlockTimes.{sorted-times}
+use Rattle.house.proofs.BlockOrder.{sorted, sorted-moved, sort-same}
 use Rattle.house.proofs.HouseRead.{house-read, one-text}
 
 -- the job that is read back has the same text

@@ -10,7 +10,8 @@ use Rattle.jobfile.specs.Read.{accepted, readJob}
 use Rattle.house.specs.Blocks.{sortBlocks}
 use Rattle.house.specs.HouseText.{houseText, houseJob, SameJob}
 use Rattle.house.specs.Promises.{IsFixed, FixedLength, ReadsBack, OneText, FixedAgain}
-use Rattle.house.proofs.BlockOrder.{one-order, sorted, sorted-times}
+use Rattle.house.proofs.BlockTimes.{sorted-times}
+use Rattle.house.proofs.BlockOrder.{one-order, sorted}
 use Rattle.house.proofs.HouseRead.{read_one}
 
 module _ (job : Job) (text : List ℕ) where

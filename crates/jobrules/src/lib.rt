@@ -1,5 +1,5 @@
 // The rules of a job's nets and blocks: what a line that gives one is refused for. A line is held against a few numbers and bits of the lines
-// above and not against the job by value, which would be copied for each line.
+// above, so that no test goes through the nets.
 #![tactic(auto)]
 
 ghost use Rattle.std.specs.Prelude.{◌≡◌, List, [], ◌∷◌, ◌++◌, length};

@@ -1,4 +1,4 @@
--- Statements and tests over all the elements of a list. The library has `List-as-Memᴰ x xs`, x is an element of xs; these stand beside it.
+-- Statements and tests over all the elements of a list. The library has `Memᴰ x xs`, x is an element of xs; these stand beside it.
 use Rattle.std.specs.Prelude.{Bool, false, cond, ◌&&◌, ◌||◌}
 use Rattle.std.proofs.Math.Bool.{true}
 use Rattle.std.proofs.Math.Option.{Option, none, some}

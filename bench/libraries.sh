@@ -1,5 +1,5 @@
 # What run.sh and fuzz.sh share; sourced, not run, with the folder of the second router in $second. It goes to the repository's folder and
-# builds, below target/: the static library of the crate `exports`, the Rust functions over it, and the second router as a library with the
+# builds the static library of the crate `exports` (in crates/exports/out) and, below target/, the Rust functions over it, and the second router as a library with the
 # level of bench/level in a constant (bench/cases.sh says what the level is).
 cd "$(dirname "$0")/.."
 mkdir -p target/bench

@@ -6,7 +6,7 @@
 #     bench/run.sh SECOND_ROUTER     the folder of the second router (its sources stand in src/), or set the variable of this name
 #
 # Builds the static library of the crate `exports`, the second router as a library, and bench/main.rs, all optimized, below target/, and
-# runs the last. It writes nothing outside target/.
+# runs the last. Beside target/ it writes what `rt lib` makes, crates/exports/out.
 set -e
 second=$(realpath "${1:-${SECOND_ROUTER:?give the folder of the second router, or set SECOND_ROUTER}}")
 . "$(dirname "$0")/libraries.sh"

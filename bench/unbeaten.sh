@@ -11,7 +11,7 @@
 #
 # At the first layout that is not sound or is beaten it prints the seed, the job, the layout and the judgement, and the exit status is 1;
 # otherwise how many layouts and tracks were judged. The second router runs at the level of bench/level (bench/cases.sh says what that is).
-# It writes nothing outside target/.
+# Beside target/ it writes what `rt run` makes, crates/route/out.
 set -eu
 LC_ALL=C
 export LC_ALL

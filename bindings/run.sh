@@ -6,7 +6,7 @@
 # Each writes the fixed text of a job, routes the job and checks the layout: the board of document 01, which is in house style, so that it is
 # its own fixed text, and whose layout is the one that the program `route` must print; a board with weights that is not in house style, whose
 # fixed text is the one that the program `house` must print; an empty job, refused 2 at line 1; and one of 64,001 bytes, refused 1. It needs
-# rt, cc and rustc, and writes below target/bindings/ only.
+# rt, cc and rustc, and writes below target/bindings/ and what `rt lib` makes, crates/exports/out.
 set -eu
 cd "$(dirname "$0")/.."
 (cd crates/exports && rt lib > /dev/null)

@@ -1,4 +1,5 @@
 -- The laws of check.
 pub mod LayoutLeft
 pub mod Answering
+pub mod AnswerHolds
 pub mod CheckRight

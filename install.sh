@@ -12,16 +12,16 @@ prefix=${1:-$here}
 mkdir -p "$prefix/bin"
 prefix=$(cd "$prefix" && pwd)
 cd "$here"
+folder=$(mktemp -d)
+trap 'rm -rf "$folder"' EXIT
 for crate in route check_layout house_job; do
-    (cd "crates/$crate" && rt run < "$here/examples/board.job" > /dev/null)
+    (cd "crates/$crate" && rt run < "$here/examples/board.job" > /dev/null) 2> "$folder/log" || { cat "$folder/log" >&2; exit 1; }
 done
 cp crates/route/out/route "$prefix/bin/route"
 cp crates/check_layout/out/check_layout "$prefix/bin/check"
 cp crates/house_job/out/house_job "$prefix/bin/house"
 echo "installed $prefix/bin/route, $prefix/bin/check and $prefix/bin/house"
 echo "the layout of the example board, examples/board.job, the verdict on it, and the board's fixed text:"
-folder=$(mktemp -d)
-trap 'rm -rf "$folder"' EXIT
 cp examples/board.job "$folder/board.job"
 "$prefix/bin/route" < examples/board.job | tee "$folder/board.lay"
 (cd "$folder" && "$prefix/bin/check")

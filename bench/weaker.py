@@ -114,7 +114,8 @@ def tried_alone(edits):
             told = re.search(rf'^rt: must-fail {edit.parent.parent.name}/{edit.name}: (.*)', said, re.M)
             if not told:
                 answers[edit] = BadEdit('it was not tried: ' + said.strip().split('\n')[-1])
-            elif told[1].startswith('refused'):
+            elif told[1].startswith('refused') or 'that depend' in told[1]:
+                # rt calls an edit bad if in a file that it changes a law falls with one before it; that one is what refused it
                 answers[edit] = [told[1]]
             elif told[1].startswith('NOT REFUSED'):
                 answers[edit] = None

@@ -5,7 +5,7 @@ use Prim.Native.Nat.{ℕ, zero, suc, ◌+◌, ◌-◌, ◌≤◌, ◌<◌}
 use native.Mathlib.Omega.{arith}
 use native.Mathlib.Numerals.{add-one}
 use lib.ListN.{length, take, drop, set}
-use borrow.Author.Tests.{le-leb, lt-leb}
+use borrow.Author.Tests.{le-leb, lt-leb, eq-eqb, ne_eqb}
 use Rattle.board.specs.declared.Net.{Net}
 use Rattle.board.specs.declared.Block.{Block}
 use Rattle.board.specs.declared.StoredJob.{StoredJob}
@@ -33,6 +33,7 @@ use Rattle.jobsteps.specs.declared.Entry.TheVariants.{OfNet, OfBlock, Nothing}
 use Rattle.jobsteps.proofs.States.{SizedState, LeadsOn, state-back, held_of, held-good, step-sound}
 use Rattle.jobsteps.proofs.Taken.{GoesOn, head-on, head-nets, net-room, net-given, net-rows, net-on, net-nets, block_room, block_on, block-nets}
 use Rattle.reader.specs.Cursors.{formOn, formStep}
+use Rattle.reader.specs.Slots.{answerWith}
 use Rattle.reader.specs.declared.cursor.Cursor.{Cursor}
 use Rattle.reader.specs.declared.cursor.FormStep.TheVariants as At
 
@@ -69,6 +70,16 @@ stops : (y : Next) (f : State → Read) (o : Outcome) → o ≡ outcomeOf y → 
 unfolding outcomeOf follow
 stops (go s) f o e h = absurd (h (ap number_of e))
 stops (stop q) f o e h = ap (λ (x : Outcome). answer_of (refused x)) e
+
+-- the answer from the outcome and the slots
+
+pub with_accepted : (o : Outcome) (slots : StoredJob) → number_of o ≡ 0 → record { outcome = o; job = slots } ≡ answerWith o slots
+unfolding answerWith
+with_accepted o slots z = rw (eq-eqb (number_of o) 0 z)
+
+pub with_refused : (o : Outcome) (slots : StoredJob) → (number_of o ≡ 0 → ⊥) → answerWith o slots ≡ answer_of (refused o)
+unfolding answerWith
+with_refused o slots h = rw (ne_eqb (number_of o) 0 h)
 
 -- a text whose lines from the reading place on are left, where those above are held
 pub record LinesLeft (s : List ℕ) (a : LinesAbove) (slots : StoredJob) (p : Cursor) : Type 0 where

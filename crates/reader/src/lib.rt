@@ -7,9 +7,11 @@ pub mod report;
 ghost use Rattle.std.specs.Prelude.{◌≡◌, ◌≤◌, length};
 ghost use Rattle.text.specs.Bytes.{lines};
 ghost use Rattle.jobfile.specs.Read.{start, ended, refused, readFrom, readJob};
-ghost use Rattle.jobfile.specs.Answers.{answer_of};
+ghost use Rattle.board.specs.Stored.{storedOf};
+ghost use Rattle.jobfile.specs.Answers.{noJob, answer_of};
 ghost use Rattle.jobfile.specs.RightAnswer.{RightAnswer};
 ghost use Rattle.jobsteps.specs.LinesAbove.{state_of, Held, jobAbove};
+ghost use Rattle.reader.specs.Slots.{answerWith};
 
 use board::StoredJob;
 use cursor::{Cursor, FormStep};
@@ -26,38 +28,36 @@ fn refusal(outcome: Outcome) -> Answer
     Answer { outcome, job }
 }
 
-// The end of a text, where `line` is the line after the last: a text without its closing bracket ends early.
-fn finish(above: LinesAbove, slots: StoredJob, line: usize) -> Answer
-    requires { Held above.stage (jobAbove above slots) }
-    ensures { result ≡ answer_of (ended line (state_of above.stage (jobAbove above slots))) }
+// The end of a text, where `line` is the line after the last: a text without its closing bracket ends early. Otherwise the slots get the
+// size of the board and the counts, and are the job.
+fn finish(above: &LinesAbove, slots: &mut StoredJob, line: usize) -> Outcome
+    requires { Held above.now.stage (jobAbove above.now slots.old) }
+    ensures { answerWith result slots.new ≡ answer_of (ended line (state_of above.now.stage (jobAbove above.now slots.old))) }
 {
     if above.stage < CLOSED {
-        return refusal(Outcome::NotOfForm(line));
+        return Outcome::NotOfForm(line);
     }
     let size = above.board;
-    let mut job = slots;
-    job.board.rows = size.rows;
-    job.board.tracks = size.tracks;
-    job.nnets = above.nnets;
-    job.nblocks = above.nblocks;
-    Answer {
-        outcome: Outcome::Accepted,
-        job,
-    }
+    slots.board.rows = size.rows;
+    slots.board.tracks = size.tracks;
+    slots.nnets = above.nnets;
+    slots.nblocks = above.nblocks;
+    Outcome::Accepted
 }
 
-// Reads the lines of a job, up to the first that is refused. The nets and blocks go into the slots of one job, which is copied for no line.
-fn read_lines(text: &[u8]) -> Answer
-    requires { length text.now ≤ 64000 }
-    ensures { result ≡ answer_of (readFrom 1 start (lines text.now)) }
+// Reads the lines of a job, up to the first that is refused. The nets and blocks go into the slots of one job, which are empty before; they
+// are lent, as a job by value would be copied.
+fn read_lines(text: &[u8], slots: &mut StoredJob) -> Outcome
+    requires short { length text.now ≤ 64000 }
+    requires empty { slots.old ≡ storedOf noJob }
+    ensures { answerWith result slots.new ≡ answer_of (readFrom 1 start (lines text.now)) }
 {
-    let mut slots = jobrules::empty_job(0, 0);
     let mut above = nothing_above();
     let mut cursor = Cursor::start();
     loop {
         let line = cursor.place.passed + 1;
         let FormStep::Read { form, next } = cursor.next(text) else {
-            return finish(above, slots, line);
+            return finish(&above, slots, line);
         };
         cursor = next;
         if let Form::Blank = form {
@@ -65,7 +65,7 @@ fn read_lines(text: &[u8]) -> Answer
         }
         let outcome = form_outcome(&above, form, line);
         if jobrules::number_of(outcome) != 0 {
-            return refusal(outcome);
+            return outcome;
         }
         match entry_of(form) {
             Entry::OfNet(given, weight) => {
@@ -92,5 +92,10 @@ pub fn read(text: &[u8]) -> Answer
     if 64000 < text.len() {
         return refusal(Outcome::TooLong);
     }
-    read_lines(text)
+    let mut job = jobrules::empty_job(0, 0);
+    let outcome = read_lines(text, &mut job);
+    if jobrules::number_of(outcome) != 0 {
+        return refusal(outcome);
+    }
+    Answer { outcome, job }
 }

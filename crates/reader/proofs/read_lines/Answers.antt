@@ -1,12 +1,12 @@
 -- `reader::read_lines` meets its contract. The invariant: what is held is that of the lines above, and the lines that are left decide. Assumes nothing.
-use mathlib.Core.Path.{refl, sym, ap, ◌∙◌}
+use mathlib.Core.Path.{◌≡◌, refl, sym, ap, ◌∙◌}
 use native.Mathlib.Omega.{arith}
-use Rattle.jobfile.specs.Answers.{answer_of}
-use Rattle.reader.proofs.Reading.{left-start, left-above, left-ahead, left-within, left-blank, left-refused, left-head, left-room, left-given, left-rows, left-net, left-block-room, left-block, left_over}
+use Rattle.jobfile.specs.Answers.{number_of, answer_of}
+use Rattle.reader.proofs.Reading.{with_refused, left-start, left-above, left-ahead, left-within, left-blank, left-refused, left-head, left-room, left-given, left-rows, left-net, left-block-room, left-block, left_over}
 use Rattle.reader.proofs.read_lines.Goals as goal
 
 pub loop-form-init : goal.loop-form-init
-loop-form-init c = left-start _ _ _ _ c.nothing_above-above.ensures c.empty_job-slots.ensures c.start-cursor.ensures.0 c.start-cursor.ensures.1
+loop-form-init c = left-start _ _ _ _ c.nothing_above-above.ensures c.requires.empty c.start-cursor.ensures.0 c.start-cursor.ensures.1
 
 pub returns-in_default : goal.returns-in_default
 returns-in_default c = c.finish.ensures ∙ ap answer_of (left_over _ _ _ _ c.loop-form.invariant (sym c.in_default.is ∙ c.next.ensures))
@@ -15,7 +15,8 @@ pub returns-then-number_of-ne0 : goal.returns-then-number_of-ne0
 returns-then-number_of-ne0 c =
     let w = c.loop-form.invariant in
     let q = c.form_outcome-outcome.ensures _ (left-above _ _ _ _ w) in
-    c.refusal.ensures ∙ left-refused _ _ _ _ w _ _ c.in-Read.ensures _ q (λ z. c.if-number_of-ne0.true (c.number_of.ensures ∙ z))
+    let n : number_of c.form_outcome-outcome.result ≡ 0 → ⊥ = λ z. c.if-number_of-ne0.true (c.number_of.ensures ∙ z) in
+    with_refused _ _ n ∙ left-refused _ _ _ _ w _ _ c.in-Read.ensures _ q n
 
 pub with_weight-net-requires-clause-board_in_range : goal.with_weight-net-requires-clause-board_in_range
 with_weight-net-requires-clause-board_in_range c =

@@ -1,6 +1,7 @@
 -- The slots of a job by value: how many there are, which nets and blocks they hold, and how one more of them is stored. Assumes nothing.
-use Prim.Native.Nat.{◌+◌, ◌-◌, ◌<◌}
+use Prim.Native.Nat.{ℕ, ◌+◌, ◌-◌, ◌≤◌, ◌<◌}
 use mathlib.Core.Path.{◌≡◌, sym, ap, ◌∙◌}
+use mathlib.Core.List.{List, ◌++◌}
 use native.Mathlib.Omega.{arith}
 use lib.ListN.{length, take, replicate, set, length-append, length-replicate}
 use Rattle.board.specs.declared.Net.{Net}
@@ -10,6 +11,13 @@ use Rattle.board.specs.Stored.{job_of, storedOf, noNet, no_block}
 use Rattle.jobfile.specs.Read.{withNet, withBlock}
 use Rattle.jobfile.proofs.StoredJobs.{stored-net, stored-block}
 use Rattle.jobsteps.specs.LinesAbove.{Filled}
+
+-- used slots, and empty ones behind them to the most that there are
+slots-room : {A : Type 0} (slots : List A) (used most : ℕ) (empty : A) → length (take used slots) ≡ used → used ≤ most →
+    take used slots ++ replicate (most - length (take used slots)) empty ≡ slots → length slots ≡ most
+slots-room slots used most empty u h e =
+    let r = most - length (take used slots) in
+    omega (arith, u, ap length e, length-append (take used slots) (replicate r empty), length-replicate r empty)
 
 module _ (job : StoredJob) (f : Filled job) where
   -- the used slots are as many as counted
@@ -24,27 +32,11 @@ module _ (job : StoredJob) (f : Filled job) where
   -- and the slots are 512 and 256
   pub nets-room : length job.nets ≡ 512
   unfolding storedOf
-  nets-room =
-      let r = 512 - length (take job.nnets job.nets) in
-      omega (
-        arith,
-        nets-used,
-        ap (λ (s : StoredJob). length s.nets) f.stored,
-        length-append (take job.nnets job.nets) (replicate r noNet),
-        length-replicate r noNet,
-      )
+  nets-room = slots-room job.nets job.nnets 512 noNet nets-used f.nets-count (ap (λ (s : StoredJob). s.nets) f.stored)
 
   pub blocks-room : length job.blocks ≡ 256
   unfolding storedOf
-  blocks-room =
-      let r = 256 - length (take job.nblocks job.blocks) in
-      omega (
-        arith,
-        blocks-used,
-        ap (λ (s : StoredJob). length s.blocks) f.stored,
-        length-append (take job.nblocks job.blocks) (replicate r no_block),
-        length-replicate r no_block,
-      )
+  blocks-room = slots-room job.blocks job.nblocks 256 no_block blocks-used f.blocks-count (ap (λ (s : StoredJob). s.blocks) f.stored)
 
   -- one more takes the first slot that is not used
   pub net-more : (n : Net) → job.nnets < 512 →

@@ -6,7 +6,7 @@ use mathlib.Core.List.Memᴰ
 use mathlib.Core.List.{List, [], ◌∷◌, ◌++◌, map, Memᴰ}
 use native.Mathlib.Omega.{arith}
 use native.Mathlib.Numerals.{add-one}
-use lib.ListN.{length, get_or, take, drop, set, length-map}
+use lib.ListN.{length, get_or, take, drop, set}
 use lib.Seq.{take-suc, length-take-le, get_or-take, take-take, split_at, get_or-set_same, get_or-set_other}
 use lib.Dec.{eqb}
 use borrow.Author.Tests.{eqb-true, eqb-false}
@@ -60,10 +60,7 @@ module _ {A : Type 0} where
       (Memᴰ.cases_cons n))
       (Memᴰ.cases_cons m)
 
--- a mapped list: its length, its element at a place, and by two functions that agree on the elements
-pub length-mapped : {A B : Type 0} (f : A → B) (xs : List A) (n : ℕ) → length (map f xs) ≡ n → length xs ≡ n
-length-mapped f xs n e = sym (length-map xs f) ∙ e
-
+-- a mapped list: its element at a place, and by two functions that agree on the elements
 pub map_at : {A : Type 0} (f : A → ℕ) (xs : List A) (i : ℕ) (d : A) → i < length xs → get_or (map f xs) i 0 ≡ f (get_or xs i d)
 map_at f [] i d h = absurd (omega arith)
 map_at f (x ∷ xs) zero d h = refl

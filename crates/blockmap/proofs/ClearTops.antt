@@ -1,11 +1,11 @@
 -- The flags of tops: one more top, each byte afterwards, and the length. Assumes nothing.
 use Prim.Native.Nat.{ℕ, zero, suc, ◌+◌, ◌-◌, ◌≤◌, ◌<◌}
-use mathlib.Core.Path.{◌≡◌, refl, ◌∙◌}
-use mathlib.Core.Bool.{Bool}
+use mathlib.Core.Path.{◌≡◌, refl, sym, ap, ◌∙◌}
+use mathlib.Core.Bool.{Bool, false}
 use mathlib.Core.List.{List}
 use native.Mathlib.Omega.{arith}
 use lib.ListN.{get_or, set, length, length-set}
-use lib.Seq.{get_or-set_same, get_or-set_other, set-set}
+use lib.Seq.{get_or-set_same, get_or-set_other, set-set, set_comm, set-get_or}
 use lib.Dec.{eqb}
 use borrow.Author.Tests.{eqb-true, eqb-false}
 use Rattle.lists.proofs.Cases.{by-test}
@@ -32,11 +32,6 @@ module _ (test : ℕ → Bool) (first : ℕ) where
       let n : top + 1 - first ≡ suc (top - first) = omega arith in
       let at : first + (top - first) ≡ top = omega arith in
       rw (n, at, e, t)
-
-  -- the same where the byte was 0 before
-  pub flags-again : (flags now : List ℕ) (top : ℕ) (b : Bool) → first ≤ top → now ≡ flagTops test first (top - first) flags → test top ≡ b
-      → set (set now (top - 1) 0) (top - 1) (flag b) ≡ flagTops test first (top + 1 - first) flags
-  flags-again flags now top b h e t = set-set now (top - 1) 0 (flag b) ∙ flags-more flags now top b h e t
 
   -- after the last top
   pub flags-all : (flags now : List ℕ) (last end top : ℕ) → now ≡ flagTops test first (top - first) flags → end ≤ top → top ≤ end → end ≡ last + 1
@@ -70,6 +65,40 @@ module _ (test : ℕ → Bool) (first : ℕ) where
   flags-other (suc k) flags i o n =
       get_or-set_other (flagTops test first k flags) (first + k - 1) i (flag (test (first + k))) 0 (n (first + k) (omega arith) (omega arith))
       ∙ flags-other k flags i o (λ top a b. n top a (omega arith))
+
+-- a byte before or behind those of the tops may as well be written first
+flags-swap : (test : ℕ → Bool) (first k : ℕ) (flags : List ℕ) (i v : ℕ) → ((top : ℕ) → first ≤ top → top < first + k → i ≡ top - 1 → ⊥)
+    → flagTops test first k (set flags i v) ≡ set (flagTops test first k flags) i v
+unfolding flagTops
+flags-swap test first zero flags i v n = refl
+flags-swap test first (suc k) flags i v n =
+    rw (flags-swap test first k flags i v (λ top a b. n top a (omega arith)))
+    (set_comm (flagTops test first k flags) i (first + k - 1) v (flag (test (first + k))) (n (first + k) (omega arith) (omega arith)))
+
+-- flags written over others on the same tops
+pub flags-over : (test other : ℕ → Bool) (first k : ℕ) (flags : List ℕ) → 1 ≤ first
+    → flagTops test first k (flagTops other first k flags) ≡ flagTops test first k flags
+unfolding flagTops
+flags-over test other first zero flags o = refl
+flags-over test other first (suc k) flags o =
+    let i = first + k - 1 in
+    let w = flag (test (first + k)) in
+    let before = flagTops other first k flags in
+    ap (λ l. set l i w) (flags-swap test first k before i (flag (other (first + k))) (λ top a b e. absurd (omega arith)))
+    ∙ set-set (flagTops test first k before) i (flag (other (first + k))) w
+    ∙ ap (λ l. set l i w) (flags-over test other first k flags o)
+
+-- where the n tops from `first` on had byte 0 to begin with, a top that fails the test leaves the bytes as they are
+pub flags-skip : (test : ℕ → Bool) (first n : ℕ) (flags zeros now : List ℕ) (top : ℕ) → 1 ≤ first → first ≤ top → top < first + n → first + n ≤ length flags + 1
+    → zeros ≡ flagTops (λ t. false) first n flags → now ≡ flagTops test first (top - first) zeros → test top ≡ false
+    → now ≡ flagTops test first (top + 1 - first) zeros
+flags-skip test first n flags zeros now top o a b l z e t =
+    let i = top - 1 in
+    let zero-before : get_or zeros i 0 ≡ 0 = ap (λ (x : List ℕ). get_or x i 0) z ∙ flags-at (λ t. false) first n flags top o a b l in
+    let zero-now : get_or now i 0 ≡ 0 =
+    ap (λ (x : List ℕ). get_or x i 0) e ∙ flags-other test first (top - first) zeros i o (λ u c d q. absurd (omega arith)) ∙ zero-before in
+    let kept : set now i 0 ≡ now = ap (set now i) (sym zero-now) ∙ set-get_or now i 0 in
+    sym kept ∙ flags-more test first zeros now top false a e t
 
 -- tests that agree on the tops give the same flags
 pub flags-same : (f g : ℕ → Bool) (first k : ℕ) (flags : List ℕ) → ((top : ℕ) → first ≤ top → top < first + k → f top ≡ g top)

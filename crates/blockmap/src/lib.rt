@@ -4,7 +4,7 @@
 ghost use Rattle.std.specs.Prelude.{◌≡◌, ◌&&◌, ◌||◌, true, false, ℕ, ◌+◌, ◌-◌, ◌≤◌, eqb, leb, length, replicate};
 ghost use Rattle.board.specs.Job.{closesRow};
 ghost use Rattle.blockmap.specs.Bits.{is_set};
-ghost use Rattle.blockmap.specs.Clear.{allUnset, flagTops};
+ghost use Rattle.blockmap.specs.Clear.{allUnset, flag, flagTops};
 
 use board::{Block, Row, Track};
 
@@ -73,24 +73,51 @@ pub fn with_block_on(map: BlockMap, track: Track, block: Block) -> BlockMap
     map
 }
 
+// A flag as a byte.
+fn byte_of(clear: bool) -> u8
+    ensures { result ≡ flag clear }
+{
+    if clear { 1 } else { 0 }
+}
+
+// Flags each top row from `first` to `last` as `clear` says.
+fn flag_all(clear: bool, first: Row, last: Row, flags: &mut [u8])
+    requires { (1 ≤ first.0) × (first.0 ≤ last.0) × (last.0 ≤ 1025) × (last.0 ≤ length flags.old) }
+    ensures { flags.new ≡ flagTops (λ top. clear) first.0 (last.0 + 1 - first.0) flags.old }
+{
+    let byte = byte_of(clear);
+    let start = first.0;
+    let stop = last.0 + 1;
+    for top in start..stop {
+        let index = top - 1;
+        flags[index] = byte;
+    }
+}
+
 // Flags the top rows from `first` to `last`: byte top − 1 becomes 1 if the `rows` rows from there on are clear, otherwise 0. Nested loops
 // over tops and covered rows: a top row is given up as soon as one blocked row is met, by a labelled continue that leaves the inner scan
-// for the next top. `known` is the first row not known to be clear, so that no scan looks at a clear row again.
+// for the next top. `known` is the first row not known to be clear, so that no scan looks at a clear row again, and `blocked` the last
+// blocked row met, 0 before the first: a placement with its top there or above covers it, and is not scanned. All bytes are 0 first, so
+// that nothing is written for a top that is given up.
 pub fn clear_tops(map: BlockMap, first: Row, last: Row, rows: usize, flags: &mut [u8])
     requires { (1 ≤ first.0) × (first.0 ≤ last.0) × (last.0 + rows ≤ 1025) × (last.0 ≤ length flags.old) }
     ensures { flags.new ≡ flagTops (λ top. allUnset map.words top rows) first.0 (last.0 + 1 - first.0) flags.old }
 {
+    flag_all(false, first, last, flags);
     let start = first.0;
     let stop = last.0 + 1;
     let mut known = start;
+    let mut blocked = 0;
     'tops: for top in start..stop {
+        if top <= blocked {
+            continue;
+        }
         let index = top - 1;
         let end = top + rows;
-        flags[index] = 0;
         let from = if known < top { top } else { known };
         for row in from..end {
             if is_blocked(&map.words, Row(row)) {
-                known = row;
+                blocked = row;
                 continue 'tops;
             }
         }
@@ -104,10 +131,5 @@ pub fn all_tops(first: Row, last: Row, flags: &mut [u8])
     requires { (1 ≤ first.0) × (first.0 ≤ last.0) × (last.0 ≤ 1024) × (last.0 ≤ length flags.old) }
     ensures { flags.new ≡ flagTops (λ top. true) first.0 (last.0 + 1 - first.0) flags.old }
 {
-    let start = first.0;
-    let stop = last.0 + 1;
-    for top in start..stop {
-        let index = top - 1;
-        flags[index] = 1;
-    }
+    flag_all(true, first, last, flags);
 }

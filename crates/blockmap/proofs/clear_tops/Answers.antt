@@ -1,16 +1,17 @@
--- `blockmap::clear_tops` meets its contract: before each turn of the outer loop the bytes of the tops tried are right, every other is as it was, and the rows from the
--- top to before `known` are clear; before each turn of the inner one the rows from the top to before the current one are clear. Assumes nothing.
+-- `blockmap::clear_tops` meets its contract: before each turn of the outer loop the bytes of the tops tried are right, those of the other tops are 0
+-- and every other is as it was; the rows from the top to before `known` are clear; and row `blocked`, if the top is not below it, is blocked and
+-- covered. Before each turn of the inner one the rows from the top to before the current one are clear, and the top is below row `blocked`.
+-- Assumes nothing.
 use Prim.Native.Nat.{ℕ, ◌+◌, ◌-◌}
 use mathlib.Core.Bool.{Bool, true, false}
 use mathlib.Core.List.{List}
-use mathlib.Core.Path.{◌≡◌, refl, sym, ◌∙◌}
+use mathlib.Core.Path.{◌≡◌, refl, sym, ap, ◌∙◌}
 use native.Mathlib.Omega.{arith}
 use lib.ListN.{length-set}
-use borrow.Author.Rules.{rules}
-use Rattle.blockmap.specs.Clear.{allUnset}
+use Rattle.blockmap.specs.Clear.{allUnset, flagTops}
 use Rattle.blockmap.specs.Bits.{is_set}
 use Rattle.blockmap.proofs.ClearRows.{clear_none, clear-more, clear_of, blocked-in}
-use Rattle.blockmap.proofs.ClearTops.{flags-none, flags-more, flags-again, flags-all}
+use Rattle.blockmap.proofs.ClearTops.{flags-none, flags-more, flags-skip, flags-all, flags-over}
 use Rattle.blockmap.proofs.clear_tops.Goals as goal
 use Rattle.blockmap.proofs.clear_tops.Goals.{then-known-top, else-known-top}
 
@@ -22,9 +23,25 @@ pub tops-init : goal.tops-init
 tops-init c =
     let a = c.args in record {
       same_length = refl;
-      written = flags-none (Test a.map.words a.rows) a.first.0 a.flags.now;
+      written = flags-none (Test a.map.words a.rows) a.first.0 c.flag_all.new.flags;
       not_past = omega arith;
       clear = clear_none a.map.words a.first.0;
+      covered = omega arith;
+      met = λ h. absurd (omega arith);
+    }
+
+-- the blocked row met last is covered: the top is given up
+pub tops-preserved-then-top-blocked : goal.tops-preserved-then-top-blocked
+tops-preserved-then-top-blocked c =
+    let a = c.args in
+    let t = c.tops in
+    let spoilt : allUnset a.map.words t.top a.rows ≡ false = blocked-in a.map.words t.top a.rows t.blocked (omega arith) t.invariant.covered (t.invariant.met (omega arith)) in record {
+      same_length = t.invariant.same_length;
+      written = flags-skip (Test a.map.words a.rows) a.first.0 (a.last.0 + 1 - a.first.0) a.flags.now c.flag_all.new.flags t.flags t.top (omega arith) (omega arith) (omega arith) (omega arith) c.flag_all.ensures t.invariant.written spoilt;
+      not_past = omega arith;
+      clear = λ row h k. t.invariant.clear row (omega arith) k;
+      covered = omega arith;
+      met = λ h. t.invariant.met (omega arith);
     }
 
 pub loop-row-init : goal.loop-row-init
@@ -34,11 +51,13 @@ loop-row-init c =
         in_scan = omega arith;
         from_top = omega arith;
         clear = λ row h k. absurd (omega arith);
+        below = omega arith;
       }
       | else-known-top w ↦ record {
         in_scan = omega arith;
         from_top = omega arith;
         clear = λ row h k. c.tops.invariant.clear row h (omega arith);
+        below = omega arith;
       }
     ]
 
@@ -50,10 +69,12 @@ tops-preserved-then-is_blocked c =
     let l = c.loop-row in
     let met : is_set a.map.words l.row ≡ true = sym c.is_blocked.ensures ∙ c.if-is_blocked.true in
     let spoilt : allUnset a.map.words t.top a.rows ≡ false = blocked-in a.map.words t.top a.rows l.row l.invariant.from_top (omega arith) met in record {
-      same_length = search rules;
-      written = flags-more (Test a.map.words a.rows) a.first.0 a.flags.now t.flags t.top false (omega arith) t.invariant.written spoilt;
+      same_length = t.invariant.same_length;
+      written = flags-skip (Test a.map.words a.rows) a.first.0 (a.last.0 + 1 - a.first.0) a.flags.now c.flag_all.new.flags t.flags t.top (omega arith) (omega arith) (omega arith) (omega arith) c.flag_all.ensures t.invariant.written spoilt;
       not_past = omega arith;
-      clear = λ row h k. l.invariant.clear row (omega arith) k;
+      clear = λ row h k. t.invariant.clear row (omega arith) k;
+      covered = omega arith;
+      met = λ h. met;
     }
 
 pub loop-row-preserved : goal.loop-row-preserved
@@ -64,10 +85,8 @@ loop-row-preserved c =
       in_scan = omega arith;
       from_top = omega arith;
       clear = clear-more words c.tops.top l.row l.invariant.clear free;
+      below = omega arith;
     }
-
-pub bounds-flags-index-in-tops : goal.bounds-flags-index-in-tops
-bounds-flags-index-in-tops c = omega (arith, length-set c.tops.flags (c.tops.top - 1) 0)
 
 -- every row of the scan is clear: the top is flagged
 pub tops-preserved : goal.tops-preserved
@@ -76,14 +95,18 @@ tops-preserved c =
     let t = c.tops in
     let l = c.loop-row in
     let clear : allUnset a.map.words t.top a.rows ≡ true = clear_of a.map.words t.top a.rows (λ row h k. l.invariant.clear row h (omega arith)) in record {
-      same_length = search rules;
-      written = flags-again (Test a.map.words a.rows) a.first.0 a.flags.now t.flags t.top true (omega arith) t.invariant.written clear;
+      same_length = length-set t.flags (t.top - 1) 1 ∙ t.invariant.same_length;
+      written = flags-more (Test a.map.words a.rows) a.first.0 c.flag_all.new.flags t.flags t.top true (omega arith) t.invariant.written clear;
       not_past = omega arith;
       clear = λ row h k. l.invariant.clear row (omega arith) (omega arith);
+      covered = omega arith;
+      met = λ h. absurd (omega arith);
     }
 
 pub returns : goal.returns
 returns c =
     let a = c.args in
     let t = c.tops in
-    flags-all (Test a.map.words a.rows) a.first.0 a.flags.now t.flags a.last.0 (a.last.0 + 1) t.top t.invariant.written (omega arith) (omega arith) refl
+    flags-all (Test a.map.words a.rows) a.first.0 c.flag_all.new.flags t.flags a.last.0 (a.last.0 + 1) t.top t.invariant.written (omega arith) (omega arith) refl
+    ∙ ap (flagTops (Test a.map.words a.rows) a.first.0 (a.last.0 + 1 - a.first.0)) c.flag_all.ensures
+    ∙ flags-over (Test a.map.words a.rows) (λ t. false) a.first.0 (a.last.0 + 1 - a.first.0) a.flags.now (omega arith)

@@ -1,8 +1,11 @@
--- Before each turn of the outer loop of `blockmap::clear_tops` the bytes of the tops tried are right, every other is as it was, and the rows from the
--- top to before `known` are clear; before each turn of the inner one the rows from the top to before the current one are clear.
-use Prim.Native.Nat.{◌≤◌, ◌+◌, ◌-◌}
+-- Before each turn of the outer loop of `blockmap::clear_tops` the bytes of the tops tried are right, those of the other tops are 0 and every other
+-- is as it was; the rows from the top to before `known` are clear; and row `blocked`, if the top is not below it, is blocked and covered. Before
+-- each turn of the inner one the rows from the top to before the current one are clear, and the top is below row `blocked`.
+use Prim.Native.Nat.{◌≤◌, ◌<◌, ◌+◌, ◌-◌}
 use mathlib.Core.Path.{◌≡◌}
+use mathlib.Core.Bool.{true}
 use lib.ListN.{length}
+use Rattle.blockmap.specs.Bits.{is_set}
 use Rattle.blockmap.specs.Clear.{allUnset, flagTops}
 use Rattle.blockmap.proofs.ClearRows.{ClearFrom}
 use Rattle.blockmap.proofs.clear_tops.Given as goal
@@ -12,6 +15,7 @@ invariant-loop-row l = record {
   in_scan : l.row ≤ l.end;
   from_top : l.top ≤ l.row;
   clear : ClearFrom l.map.words l.top l.row;
+  below : l.blocked < l.top;
 }
 
 abbrev pub invariant-tops : goal.invariant-tops
@@ -20,4 +24,6 @@ invariant-tops l = record {
   written : l.flags ≡ flagTops (λ t. allUnset l.map.words t l.rows) l.start (l.top - l.start) l.initial.flags;
   not_past : l.known ≤ l.top + l.rows;
   clear : ClearFrom l.map.words l.top l.known;
+  covered : l.blocked < l.top + l.rows;
+  met : l.top ≤ l.blocked → is_set l.map.words l.blocked ≡ true;
 }

@@ -96,9 +96,9 @@ fn flag_all(clear: bool, first: Row, last: Row, flags: &mut [u8])
 
 // Flags the top rows from `first` to `last`: byte top − 1 becomes 1 if the `rows` rows from there on are clear, otherwise 0. Nested loops
 // over tops and covered rows: a top row is given up as soon as one blocked row is met, by a labelled continue that leaves the inner scan
-// for the next top. `known` is the first row not known to be clear, so that no scan looks at a clear row again, and `blocked` the last
-// blocked row met, 0 before the first: a placement with its top there or above covers it, and is not scanned. All bytes are 0 first, so
-// that nothing is written for a top that is given up.
+// for the next top. `known` is the row behind the placement found clear last, `blocked` the blocked row met last, 0 before the first: a scan
+// begins at `known`, and a placement with its top at `blocked` or above covers it and is not scanned, so that no row is looked at twice. The
+// flags of these tops are all 0 first, so that nothing is written for a top that is given up.
 pub fn clear_tops(map: BlockMap, first: Row, last: Row, rows: usize, flags: &mut [u8])
     requires { (1 ≤ first.0) × (first.0 ≤ last.0) × (last.0 + rows ≤ 1025) × (last.0 ≤ length flags.old) }
     ensures { flags.new ≡ flagTops (λ top. allUnset map.words top rows) first.0 (last.0 + 1 - first.0) flags.old }

@@ -19,6 +19,8 @@ import sys
 HERE = os.path.dirname(os.path.realpath(__file__))
 # a word of antt, and the same with the signs of prose or of Rust around it
 WORD = re.compile(r'[^\s(){}.;,@"«»]+')
+# the same behind no dot, so no name of another module and no field
+FREE = re.compile(r'(?<![^\s(){};,@"«»])' + WORD.pattern)
 BARE = re.compile(r"[A-Za-z_][\w']*(?:-[\w']+)*")
 STRING = r'"(?:[^"\\\n]|\\.)*"'
 ANTT = re.compile(STRING + r'|(?<![^\s(){}.;,@"«»])--[^\n]*')
@@ -94,8 +96,9 @@ def main(root):
             with open(path, encoding="utf-8") as it:
                 old = it.read()
             if kind == ".antt":
+                new = code(old, names if "/proofs/" in path else outside, ANTT, WORD)
                 here = local.get(os.path.relpath(path, root), {})
-                new = code(old, {**(names if "/proofs/" in path else outside), **here}, ANTT, WORD)
+                new = code(new, here, ANTT, FREE) if here else new
             elif kind == ".rt":
                 new = code(old, outside, RUST, BARE)
             elif kind == ".edit":

@@ -3,7 +3,7 @@
 #![tactic(auto)]
 
 ghost use Rattle.std.specs.Prelude.{◌≡◌, length};
-ghost use Rattle.answers.specs.Answers.{answerValues, answerFor, bufferFor};
+ghost use Rattle.answers.specs.Answers.{answer_values, answer_for, buffer_for};
 
 use jobfile::Outcome;
 
@@ -20,7 +20,7 @@ pub enum TextAnswer {
 
 // The number of a refusal; 0 where nothing is refused.
 pub fn answer_number(answer: TextAnswer) -> usize
-    ensures { result ≡ (answerValues answer).number }
+    ensures { result ≡ (answer_values answer).number }
 {
     match answer {
         TextAnswer::Refused(outcome) => jobrules::number_of(outcome),
@@ -31,7 +31,7 @@ pub fn answer_number(answer: TextAnswer) -> usize
 
 // The line that a refusal names; 0 where it names none.
 pub fn answer_line(answer: TextAnswer) -> usize
-    ensures { result ≡ (answerValues answer).line }
+    ensures { result ≡ (answer_values answer).line }
 {
     match answer {
         TextAnswer::Refused(outcome) => jobrules::line_of(outcome),
@@ -42,7 +42,7 @@ pub fn answer_line(answer: TextAnswer) -> usize
 
 // The length of the text: written, or needed.
 pub fn answer_bytes(answer: TextAnswer) -> usize
-    ensures { result ≡ (answerValues answer).bytes }
+    ensures { result ≡ (answer_values answer).bytes }
 {
     match answer {
         TextAnswer::Refused(_) => 0,
@@ -53,8 +53,8 @@ pub fn answer_bytes(answer: TextAnswer) -> usize
 
 // Copies the text of an accepted job into a lent buffer, unless it has more bytes than the buffer.
 pub fn put_answer(bytes: &[u8], out: &mut [u8]) -> TextAnswer
-    ensures answer { result ≡ answerFor bytes.now (length out.old) }
-    ensures buffer { out.new ≡ bufferFor bytes.now out.old }
+    ensures answer { result ≡ answer_for bytes.now (length out.old) }
+    ensures buffer { out.new ≡ buffer_for bytes.now out.old }
 {
     let needed = bytes.len();
     if out.len() < needed {

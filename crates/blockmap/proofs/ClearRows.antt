@@ -7,13 +7,13 @@ use mathlib.Core.List.{List}
 use native.Mathlib.Omega.{arith}
 use lib.Dec.{eqb}
 use borrow.Author.Tests.{eqb-true, eqb-false}
-use Rattle.lists.proofs.Cases.{by-test}
+use Rattle.lists.proofs.Cases.{by_test}
 use Rattle.board.specs.Job.{Job}
 use Rattle.board.specs.Placement.{Placement, Clear, covered}
-use Rattle.board.specs.Tests.{clearRows}
-use Rattle.board.proofs.ExactTests.{clear-rows, rows-clear}
+use Rattle.board.specs.Tests.{clear_rows}
+use Rattle.board.proofs.ExactTests.{clear_rows_lem, rows_clear}
 use Rattle.blockmap.specs.Bits.{is_set, MapOf}
-use Rattle.blockmap.specs.Clear.{allUnset}
+use Rattle.blockmap.specs.Clear.{all_unset}
 
 -- the rows from `top` to before `end` are clear
 abbrev pub ClearFrom : List ℕ → ℕ → ℕ → Type 0
@@ -23,56 +23,56 @@ pub clear_none : (words : List ℕ) (top : ℕ) → ClearFrom words top top
 clear_none words top row a b = absurd (omega arith)
 
 -- one clear row more
-pub clear-more : (words : List ℕ) (top row : ℕ) → ClearFrom words top row → is_set words row ≡ false → ClearFrom words top (row + 1)
-clear-more words top row c f k a b =
-    by-test (eqb k row)
+pub clear_more : (words : List ℕ) (top row : ℕ) → ClearFrom words top row → is_set words row ≡ false → ClearFrom words top (row + 1)
+clear_more words top row c f k a b =
+    by_test (eqb k row)
     (λ t. rw (eqb-true k row t) f)
     (λ t. let d : k ≡ row → ⊥ = eqb-false k row t in c k a (omega arith))
 
 -- a row that is set spoils every placement that covers it
-pub blocked-in : (words : List ℕ) (top m row : ℕ) → top ≤ row → row < top + m → is_set words row ≡ true → allUnset words top m ≡ false
-unfolding allUnset
-blocked-in words top zero row h l b = absurd (omega arith)
-blocked-in words top (suc m) row h l b =
-    by-test (eqb row (top + m))
+pub blocked_in : (words : List ℕ) (top m row : ℕ) → top ≤ row → row < top + m → is_set words row ≡ true → all_unset words top m ≡ false
+unfolding all_unset
+blocked_in words top zero row h l b = absurd (omega arith)
+blocked_in words top (suc m) row h l b =
+    by_test (eqb row (top + m))
     (λ t.
     let e : row ≡ top + m = eqb-true row (top + m) t in
     let s : is_set words (top + m) ≡ true = rw e at b in
-    rw s (and-false (allUnset words top m)))
+    rw s (and-false (all_unset words top m)))
     (λ t.
     let d : row ≡ top + m → ⊥ = eqb-false row (top + m) t in
-    rw (blocked-in words top m row h (omega arith) b))
+    rw (blocked_in words top m row h (omega arith) b))
 
-pub clear_at : (words : List ℕ) (top m : ℕ) → allUnset words top m ≡ true
+pub clear_at : (words : List ℕ) (top m : ℕ) → all_unset words top m ≡ true
     → (row : ℕ) → top ≤ row → row < top + m → is_set words row ≡ false
 clear_at words top m c row h l =
-    by-test (is_set words row)
-    (λ b. absurd (true≢false (sym c ∙ blocked-in words top m row h l b)))
+    by_test (is_set words row)
+    (λ b. absurd (true≢false (sym c ∙ blocked_in words top m row h l b)))
     (λ f. f)
 
 pub clear_of : (words : List ℕ) (top m : ℕ) → ((row : ℕ) → top ≤ row → row < top + m → is_set words row ≡ false)
-    → allUnset words top m ≡ true
-unfolding allUnset
+    → all_unset words top m ≡ true
+unfolding all_unset
 clear_of words top zero f = refl
 clear_of words top (suc m) f =
     rw (clear_of words top m (λ row h l. f row h (omega arith)), f (top + m) (omega arith) (omega arith))
 
 module _ (job : Job) (t : ℕ) (words : List ℕ) (map : MapOf job t words) where
   -- rows are clear in the block map of a track exactly if none of them is blocked
-  pub clear-same : (top m : ℕ) → allUnset words top m ≡ clearRows job t top m
-  clear-same top m =
-      by-test (allUnset words top m)
-      (λ e. e ∙ sym (rows-clear job t top m (λ row a b. sym (map row) ∙ clear_at words top m e row a b)))
+  pub clear_same : (top m : ℕ) → all_unset words top m ≡ clear_rows job t top m
+  clear_same top m =
+      by_test (all_unset words top m)
+      (λ e. e ∙ sym (rows_clear job t top m (λ row a b. sym (map row) ∙ clear_at words top m e row a b)))
       (λ e.
-      by-test (clearRows job t top m)
-      (λ f. absurd (true≢false (sym (clear_of words top m (λ row a b. map row ∙ clear-rows job t top m f row a b)) ∙ e)))
+      by_test (clear_rows job t top m)
+      (λ f. absurd (true≢false (sym (clear_of words top m (λ row a b. map row ∙ clear_rows_lem job t top m f row a b)) ∙ e)))
       (λ f. e ∙ sym f))
 
   -- so a placement is clear of blocks exactly if its covered rows are clear
-  pub placement-clear : (p : Placement) → allUnset words p.top (covered p.net p.shape) ≡ true → Clear job t p
+  pub placement_clear : (p : Placement) → all_unset words p.top (covered p.net p.shape) ≡ true → Clear job t p
   unfolding covered
-  placement-clear p c row a b = sym (map row) ∙ clear_at words p.top (covered p.net p.shape) c row a (omega arith)
+  placement_clear p c row a b = sym (map row) ∙ clear_at words p.top (covered p.net p.shape) c row a (omega arith)
 
-  pub clear-placement : (p : Placement) → Clear job t p → allUnset words p.top (covered p.net p.shape) ≡ true
+  pub clear_placement : (p : Placement) → Clear job t p → all_unset words p.top (covered p.net p.shape) ≡ true
   unfolding covered
-  clear-placement p f = clear_of words p.top (covered p.net p.shape) (λ row a b. map row ∙ f row a (omega arith))
+  clear_placement p f = clear_of words p.top (covered p.net p.shape) (λ row a b. map row ∙ f row a (omega arith))

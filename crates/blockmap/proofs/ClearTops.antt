@@ -8,102 +8,102 @@ use lib.ListN.{get_or, set, length, length-set}
 use lib.Seq.{get_or-set_same, get_or-set_other, set-set, set_comm, set-get_or}
 use lib.Dec.{eqb}
 use borrow.Author.Tests.{eqb-true, eqb-false}
-use Rattle.lists.proofs.Cases.{by-test}
-use Rattle.blockmap.specs.Clear.{flag, flagTops}
+use Rattle.lists.proofs.Cases.{by_test}
+use Rattle.blockmap.specs.Clear.{flag, flag_tops}
 
 module _ (test : ℕ → Bool) (first : ℕ) where
-  pub flags-length : (k : ℕ) (flags : List ℕ) → length (flagTops test first k flags) ≡ length flags
-  unfolding flagTops
-  flags-length zero flags = refl
-  flags-length (suc k) flags = rw length-set (flags-length k flags)
+  pub flags_length : (k : ℕ) (flags : List ℕ) → length (flag_tops test first k flags) ≡ length flags
+  unfolding flag_tops
+  flags_length zero flags = refl
+  flags_length (suc k) flags = rw length-set (flags_length k flags)
 
   -- before the first top
-  pub flags-none : (flags : List ℕ) → flags ≡ flagTops test first (first - first) flags
-  unfolding flagTops
-  flags-none flags =
+  pub flags_none : (flags : List ℕ) → flags ≡ flag_tops test first (first - first) flags
+  unfolding flag_tops
+  flags_none flags =
       let e : first - first ≡ 0 = omega arith in
       rw e
 
   -- one more top, after its byte is written
-  pub flags-more : (flags now : List ℕ) (top : ℕ) (b : Bool) → first ≤ top → now ≡ flagTops test first (top - first) flags → test top ≡ b
-      → set now (top - 1) (flag b) ≡ flagTops test first (top + 1 - first) flags
-  unfolding flagTops
-  flags-more flags now top b h e t =
+  pub flags_more : (flags now : List ℕ) (top : ℕ) (b : Bool) → first ≤ top → now ≡ flag_tops test first (top - first) flags → test top ≡ b
+      → set now (top - 1) (flag b) ≡ flag_tops test first (top + 1 - first) flags
+  unfolding flag_tops
+  flags_more flags now top b h e t =
       let n : top + 1 - first ≡ suc (top - first) = omega arith in
       let at : first + (top - first) ≡ top = omega arith in
       rw (n, at, e, t)
 
   -- after the last top
-  pub flags-all : (flags now : List ℕ) (last end top : ℕ) → now ≡ flagTops test first (top - first) flags → end ≤ top → top ≤ end → end ≡ last + 1
-      → now ≡ flagTops test first (last + 1 - first) flags
-  flags-all flags now last end top e a b l =
+  pub flags_all : (flags now : List ℕ) (last end top : ℕ) → now ≡ flag_tops test first (top - first) flags → end ≤ top → top ≤ end → end ≡ last + 1
+      → now ≡ flag_tops test first (last + 1 - first) flags
+  flags_all flags now last end top e a b l =
       let t : top ≡ last + 1 = omega arith in
       rw t at e
 
   -- the byte of a top
-  pub flags-at : (k : ℕ) (flags : List ℕ) (top : ℕ) → 1 ≤ first → first ≤ top → top < first + k → first + k ≤ length flags + 1
-      → get_or (flagTops test first k flags) (top - 1) 0 ≡ flag (test top)
-  unfolding flagTops
-  flags-at zero flags top o a b l = absurd (omega arith)
-  flags-at (suc k) flags top o a b l =
-      by-test (eqb top (first + k))
+  pub flags_at : (k : ℕ) (flags : List ℕ) (top : ℕ) → 1 ≤ first → first ≤ top → top < first + k → first + k ≤ length flags + 1
+      → get_or (flag_tops test first k flags) (top - 1) 0 ≡ flag (test top)
+  unfolding flag_tops
+  flags_at zero flags top o a b l = absurd (omega arith)
+  flags_at (suc k) flags top o a b l =
+      by_test (eqb top (first + k))
       (λ t.
       let e : top ≡ first + k = eqb-true top (first + k) t in
-      let s : first + k - 1 < length (flagTops test first k flags) = omega (arith, flags-length k flags) in
-      rw e (get_or-set_same (flagTops test first k flags) (first + k - 1) (flag (test (first + k))) 0 s))
+      let s : first + k - 1 < length (flag_tops test first k flags) = omega (arith, flags_length k flags) in
+      rw e (get_or-set_same (flag_tops test first k flags) (first + k - 1) (flag (test (first + k))) 0 s))
       (λ t.
       let d : top ≡ first + k → ⊥ = eqb-false top (first + k) t in
       let d' : top - 1 ≡ first + k - 1 → ⊥ = λ q. d (omega arith) in
-      get_or-set_other (flagTops test first k flags) (first + k - 1) (top - 1) (flag (test (first + k))) 0 d'
-      ∙ flags-at k flags top o a (omega arith) (omega arith))
+      get_or-set_other (flag_tops test first k flags) (first + k - 1) (top - 1) (flag (test (first + k))) 0 d'
+      ∙ flags_at k flags top o a (omega arith) (omega arith))
 
   -- every other byte
-  pub flags-other : (k : ℕ) (flags : List ℕ) (i : ℕ) → 1 ≤ first → ((top : ℕ) → first ≤ top → top < first + k → i ≡ top - 1 → ⊥)
-      → get_or (flagTops test first k flags) i 0 ≡ get_or flags i 0
-  unfolding flagTops
-  flags-other zero flags i o n = refl
-  flags-other (suc k) flags i o n =
-      get_or-set_other (flagTops test first k flags) (first + k - 1) i (flag (test (first + k))) 0 (n (first + k) (omega arith) (omega arith))
-      ∙ flags-other k flags i o (λ top a b. n top a (omega arith))
+  pub flags_other : (k : ℕ) (flags : List ℕ) (i : ℕ) → 1 ≤ first → ((top : ℕ) → first ≤ top → top < first + k → i ≡ top - 1 → ⊥)
+      → get_or (flag_tops test first k flags) i 0 ≡ get_or flags i 0
+  unfolding flag_tops
+  flags_other zero flags i o n = refl
+  flags_other (suc k) flags i o n =
+      get_or-set_other (flag_tops test first k flags) (first + k - 1) i (flag (test (first + k))) 0 (n (first + k) (omega arith) (omega arith))
+      ∙ flags_other k flags i o (λ top a b. n top a (omega arith))
 
 -- a byte before or behind those of the tops may as well be written first
-flags-swap : (test : ℕ → Bool) (first k : ℕ) (flags : List ℕ) (i v : ℕ) → ((top : ℕ) → first ≤ top → top < first + k → i ≡ top - 1 → ⊥)
-    → flagTops test first k (set flags i v) ≡ set (flagTops test first k flags) i v
-unfolding flagTops
-flags-swap test first zero flags i v n = refl
-flags-swap test first (suc k) flags i v n =
-    rw (flags-swap test first k flags i v (λ top a b. n top a (omega arith)))
-    (set_comm (flagTops test first k flags) i (first + k - 1) v (flag (test (first + k))) (n (first + k) (omega arith) (omega arith)))
+flags_swap : (test : ℕ → Bool) (first k : ℕ) (flags : List ℕ) (i v : ℕ) → ((top : ℕ) → first ≤ top → top < first + k → i ≡ top - 1 → ⊥)
+    → flag_tops test first k (set flags i v) ≡ set (flag_tops test first k flags) i v
+unfolding flag_tops
+flags_swap test first zero flags i v n = refl
+flags_swap test first (suc k) flags i v n =
+    rw (flags_swap test first k flags i v (λ top a b. n top a (omega arith)))
+    (set_comm (flag_tops test first k flags) i (first + k - 1) v (flag (test (first + k))) (n (first + k) (omega arith) (omega arith)))
 
 -- flags written over others on the same tops
-pub flags-over : (test other : ℕ → Bool) (first k : ℕ) (flags : List ℕ) → 1 ≤ first
-    → flagTops test first k (flagTops other first k flags) ≡ flagTops test first k flags
-unfolding flagTops
-flags-over test other first zero flags o = refl
-flags-over test other first (suc k) flags o =
+pub flags_over : (test other : ℕ → Bool) (first k : ℕ) (flags : List ℕ) → 1 ≤ first
+    → flag_tops test first k (flag_tops other first k flags) ≡ flag_tops test first k flags
+unfolding flag_tops
+flags_over test other first zero flags o = refl
+flags_over test other first (suc k) flags o =
     let i = first + k - 1 in
     let w = flag (test (first + k)) in
-    let before = flagTops other first k flags in
-    ap (λ l. set l i w) (flags-swap test first k before i (flag (other (first + k))) (λ top a b e. absurd (omega arith)))
-    ∙ set-set (flagTops test first k before) i (flag (other (first + k))) w
-    ∙ ap (λ l. set l i w) (flags-over test other first k flags o)
+    let before = flag_tops other first k flags in
+    ap (λ l. set l i w) (flags_swap test first k before i (flag (other (first + k))) (λ top a b e. absurd (omega arith)))
+    ∙ set-set (flag_tops test first k before) i (flag (other (first + k))) w
+    ∙ ap (λ l. set l i w) (flags_over test other first k flags o)
 
 -- where the n tops from `first` on had byte 0 to begin with, a top that fails the test leaves the bytes as they are
-pub flags-skip : (test : ℕ → Bool) (first n : ℕ) (flags zeros now : List ℕ) (top : ℕ) → 1 ≤ first → first ≤ top → top < first + n → first + n ≤ length flags + 1
-    → zeros ≡ flagTops (λ t. false) first n flags → now ≡ flagTops test first (top - first) zeros → test top ≡ false
-    → now ≡ flagTops test first (top + 1 - first) zeros
-flags-skip test first n flags zeros now top o a b l z e t =
+pub flags_skip : (test : ℕ → Bool) (first n : ℕ) (flags zeros now : List ℕ) (top : ℕ) → 1 ≤ first → first ≤ top → top < first + n → first + n ≤ length flags + 1
+    → zeros ≡ flag_tops (λ t. false) first n flags → now ≡ flag_tops test first (top - first) zeros → test top ≡ false
+    → now ≡ flag_tops test first (top + 1 - first) zeros
+flags_skip test first n flags zeros now top o a b l z e t =
     let i = top - 1 in
-    let zero-before : get_or zeros i 0 ≡ 0 = ap (λ (x : List ℕ). get_or x i 0) z ∙ flags-at (λ t. false) first n flags top o a b l in
-    let zero-now : get_or now i 0 ≡ 0 =
-    ap (λ (x : List ℕ). get_or x i 0) e ∙ flags-other test first (top - first) zeros i o (λ u c d q. absurd (omega arith)) ∙ zero-before in
-    let kept : set now i 0 ≡ now = ap (set now i) (sym zero-now) ∙ set-get_or now i 0 in
-    sym kept ∙ flags-more test first zeros now top false a e t
+    let zero_before : get_or zeros i 0 ≡ 0 = ap (λ (x : List ℕ). get_or x i 0) z ∙ flags_at (λ t. false) first n flags top o a b l in
+    let zero_now : get_or now i 0 ≡ 0 =
+    ap (λ (x : List ℕ). get_or x i 0) e ∙ flags_other test first (top - first) zeros i o (λ u c d q. absurd (omega arith)) ∙ zero_before in
+    let kept : set now i 0 ≡ now = ap (set now i) (sym zero_now) ∙ set-get_or now i 0 in
+    sym kept ∙ flags_more test first zeros now top false a e t
 
 -- tests that agree on the tops give the same flags
-pub flags-same : (f g : ℕ → Bool) (first k : ℕ) (flags : List ℕ) → ((top : ℕ) → first ≤ top → top < first + k → f top ≡ g top)
-    → flagTops f first k flags ≡ flagTops g first k flags
-unfolding flagTops
-flags-same f g first zero flags h = refl
-flags-same f g first (suc k) flags h =
-    rw (flags-same f g first k flags (λ top a b. h top a (omega arith)), h (first + k) (omega arith) (omega arith))
+pub flags_same : (f g : ℕ → Bool) (first k : ℕ) (flags : List ℕ) → ((top : ℕ) → first ≤ top → top < first + k → f top ≡ g top)
+    → flag_tops f first k flags ≡ flag_tops g first k flags
+unfolding flag_tops
+flags_same f g first zero flags h = refl
+flags_same f g first (suc k) flags h =
+    rw (flags_same f g first k flags (λ top a b. h top a (omega arith)), h (first + k) (omega arith) (omega arith))

@@ -2,9 +2,9 @@
 #![tactic(auto)]
 
 ghost use Rattle.std.specs.Prelude.{◌≡◌, ◌&&◌, ◌||◌, true, false, ℕ, ◌+◌, ◌-◌, ◌≤◌, eqb, leb, length, replicate};
-ghost use Rattle.board.specs.Job.{closesRow};
+ghost use Rattle.board.specs.Job.{closes_row};
 ghost use Rattle.blockmap.specs.Bits.{is_set};
-ghost use Rattle.blockmap.specs.Clear.{allUnset, flag, flagTops};
+ghost use Rattle.blockmap.specs.Clear.{all_unset, flag, flag_tops};
 
 use board::{Block, Row, Track};
 
@@ -65,7 +65,7 @@ pub fn with_rows_of(map: BlockMap, block: Block) -> BlockMap
 // The map of a track with one more block: a block of another track leaves it as it is.
 pub fn with_block_on(map: BlockMap, track: Track, block: Block) -> BlockMap
     requires { (1 ≤ block.first.0) × (block.first.0 ≤ block.last.0) × (block.last.0 ≤ 1024) }
-    ensures { (k : ℕ) → is_set result.words k ≡ (closesRow block track.0 k || is_set map.words k) }
+    ensures { (k : ℕ) → is_set result.words k ≡ (closes_row block track.0 k || is_set map.words k) }
 {
     if block.track.0 == track.0 {
         return with_rows_of(map, block);
@@ -83,7 +83,7 @@ fn byte_of(clear: bool) -> u8
 // Flags each top row from `first` to `last` as `clear` says.
 fn flag_all(clear: bool, first: Row, last: Row, flags: &mut [u8])
     requires { (1 ≤ first.0) × (first.0 ≤ last.0) × (last.0 ≤ 1025) × (last.0 ≤ length flags.old) }
-    ensures { flags.new ≡ flagTops (λ top. clear) first.0 (last.0 + 1 - first.0) flags.old }
+    ensures { flags.new ≡ flag_tops (λ top. clear) first.0 (last.0 + 1 - first.0) flags.old }
 {
     let byte = byte_of(clear);
     let start = first.0;
@@ -101,7 +101,7 @@ fn flag_all(clear: bool, first: Row, last: Row, flags: &mut [u8])
 // flags of these tops are all 0 first, so that nothing is written for a top that is given up.
 pub fn clear_tops(map: BlockMap, first: Row, last: Row, rows: usize, flags: &mut [u8])
     requires { (1 ≤ first.0) × (first.0 ≤ last.0) × (last.0 + rows ≤ 1025) × (last.0 ≤ length flags.old) }
-    ensures { flags.new ≡ flagTops (λ top. allUnset map.words top rows) first.0 (last.0 + 1 - first.0) flags.old }
+    ensures { flags.new ≡ flag_tops (λ top. all_unset map.words top rows) first.0 (last.0 + 1 - first.0) flags.old }
 {
     flag_all(false, first, last, flags);
     let start = first.0;
@@ -129,7 +129,7 @@ pub fn clear_tops(map: BlockMap, first: Row, last: Row, rows: usize, flags: &mut
 // The same on a track without blocks, where no row is scanned: every top row from `first` to `last` is clear.
 pub fn all_tops(first: Row, last: Row, flags: &mut [u8])
     requires { (1 ≤ first.0) × (first.0 ≤ last.0) × (last.0 ≤ 1024) × (last.0 ≤ length flags.old) }
-    ensures { flags.new ≡ flagTops (λ top. true) first.0 (last.0 + 1 - first.0) flags.old }
+    ensures { flags.new ≡ flag_tops (λ top. true) first.0 (last.0 + 1 - first.0) flags.old }
 {
     flag_all(true, first, last, flags);
 }

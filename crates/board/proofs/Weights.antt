@@ -9,28 +9,28 @@ use lib.ListN.{length}
 use Rattle.board.specs.declared.Board.{Board}
 use Rattle.board.specs.declared.Net.{Net}
 use Rattle.board.specs.Length.{needed}
-use Rattle.board.specs.Weight.{weight, weightSum}
+use Rattle.board.specs.Weight.{weight, weight_sum}
 use Rattle.board.specs.Job.{Job}
 use Rattle.board.specs.Accepted.{BoardInRange, AcceptedNet, AcceptedJob}
-use Rattle.board.proofs.ShortestShape.{needed-pos}
+use Rattle.board.proofs.ShortestShape.{needed_pos}
 
 -- the weight of an accepted net: its needed rows, or one from 1 to 999
-pub weight-range : (board : Board) (n : Net) → BoardInRange board → AcceptedNet board n →
+pub weight_range : (board : Board) (n : Net) → BoardInRange board → AcceptedNet board n →
     (1 ≤ weight n) × (weight n ≤ 1024)
 unfolding weight
-weight-range board n b a =
-    let p = needed-pos board n in
+weight_range board n b a =
+    let p = needed_pos board n in
     ⊎_elim
     (λ (e : n.weight ≡ needed board n). (omega arith, omega arith))
     (λ (h : (1 ≤ n.weight) × (n.weight ≤ 999)). (omega arith, omega arith))
     a.weight_is
 
-weight-within : (ns : List Net) → ((n : Net) → Memᴰ n ns → weight n ≤ 1024) → weightSum ns ≤ 1024 * length ns
-unfolding weightSum
-weight-within [] f = omega arith
-weight-within (n ∷ ns) f =
-    omega (arith, f n (Memᴰ.head refl), weight-within ns (λ m i. f m (Memᴰ.tail i)))
+weight_within : (ns : List Net) → ((n : Net) → Memᴰ n ns → weight n ≤ 1024) → weight_sum ns ≤ 1024 * length ns
+unfolding weight_sum
+weight_within [] f = omega arith
+weight_within (n ∷ ns) f =
+    omega (arith, f n (Memᴰ.head refl), weight_within ns (λ m i. f m (Memᴰ.tail i)))
 
-pub job-weight : (job : Job) → AcceptedJob job → weightSum job.nets ≤ 524288
-job-weight job a =
-    omega (arith, weight-within job.nets (λ n i. (weight-range job.board n a.board-range (a.nets-each n i)).1), a.nets-count)
+pub job_weight : (job : Job) → AcceptedJob job → weight_sum job.nets ≤ 524288
+job_weight job a =
+    omega (arith, weight_within job.nets (λ n i. (weight_range job.board n a.board_range (a.nets_each n i)).1), a.nets_count)

@@ -12,9 +12,9 @@ pub record Job : Type 0 where
   pub blocks : List Block
 
 -- the block closes the row of track t on layer 2
-unfoldable pub closesRow : Block → ℕ → ℕ → Bool
-closesRow b t row = eqb b.track.0 t && leb b.first.0 row && leb row b.last.0
+unfoldable pub closes_row : Block → ℕ → ℕ → Bool
+closes_row b t row = eqb b.track.0 t && leb b.first.0 row && leb row b.last.0
 
 -- a row of track t that some block closes; blocks may overlap
 unfoldable pub blocked : Job → ℕ → ℕ → Bool
-blocked job t row = any_of (λ b. closesRow b t row) job.blocks
+blocked job t row = any_of (λ b. closes_row b t row) job.blocks

@@ -23,8 +23,8 @@ unfolding upper lower
 span n = lower n - upper n
 
 -- D = W + |L − R|
-unfoldable pub plainLength : Board → Net → ℕ
-plainLength board n = width board + span n
+unfoldable pub plain_length : Board → Net → ℕ
+plain_length board n = width board + span n
 
 -- e, the rows that a shape covers beside the fixed ones; 0 if plain
 abbrev pub extra : Shape → ℕ
@@ -33,8 +33,8 @@ extra (Stretched e) = e
 
 -- the length of a net in a shape: D if plain, D + 2e + 2 with stretch e; these are its possible lengths
 abbrev pub length_of : Board → Net → Shape → ℕ
-length_of board n Plain = plainLength board n
-length_of board n (Stretched e) = plainLength board n + 2 * e + 2
+length_of board n Plain = plain_length board n
+length_of board n (Stretched e) = plain_length board n + 2 * e + 2
 
 -- the length of the net in this shape is allowed: min ≤ length ≤ max
 pub record Allowed (board : Board) (n : Net) (s : Shape) : Type 0 where
@@ -44,7 +44,7 @@ pub record Allowed (board : Board) (n : Net) (s : Shape) : Type 0 where
 -- the shape of the shortest allowed length, where any is allowed: D if D ≥ min, otherwise e = ceil((min − D) / 2) − 1
 unfoldable pub shortest : Board → Net → Shape
 shortest board n =
-    cond (leb n.min (plainLength board n)) Plain (Stretched ((n.min - plainLength board n + 1) / 2 - 1))
+    cond (leb n.min (plain_length board n)) Plain (Stretched ((n.min - plain_length board n + 1) / 2 - 1))
 
 -- n, the needed rows: |L − R| + 1, plus e if stretched
 unfoldable pub needed : Board → Net → ℕ

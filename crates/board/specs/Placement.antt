@@ -17,12 +17,12 @@ pub record Placement : Type 0 where
   pub top : ℕ
 
 -- net n in shape s, with its top at row j
-abbrev pub placementAt : Net → Shape → ℕ → Placement
-placementAt n s j = record { net = n; shape = s; top = j }
+abbrev pub placement_at : Net → Shape → ℕ → Placement
+placement_at n s j = record { net = n; shape = s; top = j }
 
 -- a shortest placement: net n at its shortest length, with its top at row j
-abbrev pub shortestAt : Board → Net → ℕ → Placement
-shortestAt board n j = record { net = n; shape = shortest board n; top = j }
+abbrev pub shortest_at : Board → Net → ℕ → Placement
+shortest_at board n j = record { net = n; shape = shortest board n; top = j }
 
 -- s, the lowest row that a placement covers
 abbrev pub bottom : Placement → ℕ
@@ -33,17 +33,17 @@ bottom p = p.top + span p.net + extra p.shape
 pub record Legal (board : Board) (p : Placement) : Type 0 where
   pub allowed : Allowed board p.net p.shape
   pub from_one : 1 ≤ p.top
-  pub over-upper : p.top ≤ upper p.net
-  pub under-lower : lower p.net ≤ bottom p
+  pub over_upper : p.top ≤ upper p.net
+  pub under_lower : lower p.net ≤ bottom p
   pub to_last : bottom p ≤ board.rows
 
 -- max(1, a − e), the first top row of a net in a shape
-unfoldable pub firstTop : Net → Shape → ℕ
-firstTop n s = max 1 (upper n - extra s)
+unfoldable pub first_top : Net → Shape → ℕ
+first_top n s = max 1 (upper n - extra s)
 
 -- min(a, H − m + 1), the last top row of a net in a shape; 0 where m is above H
-unfoldable pub lastTop : Board → Net → Shape → ℕ
-lastTop board n s = min (upper n) (board.rows + 1 - covered n s)
+unfoldable pub last_top : Board → Net → Shape → ℕ
+last_top board n s = min (upper n) (board.rows + 1 - covered n s)
 
 -- clear of blocks: no row of the placement is blocked on track t
 abbrev pub Clear : Job → ℕ → Placement → Type 0

@@ -10,7 +10,7 @@ use Rattle.board.specs.Precedence.{Eligible}
 -- p may stand on track t, where `earlier` has the numbers of the nets on earlier tracks: a placement of a net of the job at an
 -- allowed length, clear of blocks; the net stands on no earlier track, and every net that precedes it does
 pub record Placeable (job : Job) (earlier : List ℕ) (t : ℕ) (p : Placement) : Type 0 where
-  pub of-job : Memᴰ p.net job.nets
+  pub of_job : Memᴰ p.net job.nets
   pub legal : Legal job.board p
   pub clear : Clear job t p
   pub eligible : Eligible job earlier p.net
@@ -26,6 +26,6 @@ pub record Rival (job : Job) (earlier : List ℕ) (t : ℕ) (ps : List Placement
   pub apart : EachPair Apart ps
 
 -- the sum of a rival sequence: the weights of its nets, whatever the lengths drawn
-unfoldable pub rivalSum : List Placement → ℕ
-rivalSum [] = 0
-rivalSum (p ∷ ps) = weight p.net + rivalSum ps
+unfoldable pub rival_sum : List Placement → ℕ
+rival_sum [] = 0
+rival_sum (p ∷ ps) = weight p.net + rival_sum ps

@@ -4,8 +4,8 @@ use Rattle.std.specs.Prelude.{List, [], ◌∷◌}
 use Rattle.board.specs.declared.Net.{Net}
 use Rattle.board.specs.declared.Shape.TheVariants.{Plain, Stretched}
 use Rattle.board.specs.Job.{Job}
-use Rattle.board.specs.Placement.{Placement, placementAt}
-use Rattle.board.specs.WorkedBoard.{workedBoard, workedBlock, net1, net2, net3, net4, net5}
+use Rattle.board.specs.Placement.{Placement, placement_at}
+use Rattle.board.specs.WorkedBoard.{worked_board, worked_block, net1, net2, net3, net4, net5}
 
 -- net 1 of the worked job with a max of 13: it may be stretched
 abbrev pub wide1 : Net
@@ -20,28 +20,28 @@ abbrev pub wide3 : Net
 wide3 = record { number = 3; left = record { 0 = 9 }; right = record { 0 = 10 }; min = 6; max = 10; weight = 2 }
 
 -- the worked job with these three nets in place of its own
-abbrev pub wideJob : Job
-wideJob = record { board = workedBoard; nets = wide1 ∷ odd2 ∷ wide3 ∷ net4 ∷ net5 ∷ []; blocks = workedBlock ∷ [] }
+abbrev pub wide_job : Job
+wide_job = record { board = worked_board; nets = wide1 ∷ odd2 ∷ wide3 ∷ net4 ∷ net5 ∷ []; blocks = worked_block ∷ [] }
 
 -- the wires that route writes on track 1: (track 1 9)
 abbrev pub track1 : List Placement
-track1 = placementAt net1 Plain 2 ∷ placementAt net2 (Stretched 1) 5 ∷ placementAt net3 Plain 9 ∷ []
+track1 = placement_at net1 Plain 2 ∷ placement_at net2 (Stretched 1) 5 ∷ placement_at net3 Plain 9 ∷ []
 
 -- the wires that route writes on track 2: (track 2 2)
 abbrev pub track2 : List Placement
-track2 = placementAt net4 Plain 2 ∷ []
+track2 = placement_at net4 Plain 2 ∷ []
 
 -- the wires of track 1 with net 3 at its other allowed length, 8
 abbrev pub longer3 : List Placement
-longer3 = placementAt net1 Plain 2 ∷ placementAt net2 (Stretched 1) 5 ∷ placementAt net3 (Stretched 0) 9 ∷ []
+longer3 = placement_at net1 Plain 2 ∷ placement_at net2 (Stretched 1) 5 ∷ placement_at net3 (Stretched 0) 9 ∷ []
 
 -- nets 1 and 2, net 2 at its other top row, so that net 3 has no room: not what route writes
-abbrev pub otherTop : List Placement
-otherTop = placementAt net1 Plain 2 ∷ placementAt net2 (Stretched 1) 6 ∷ []
+abbrev pub other_top : List Placement
+other_top = placement_at net1 Plain 2 ∷ placement_at net2 (Stretched 1) 6 ∷ []
 
 -- three nets of the job with wider bounds on all of rows 1 to H, of which they need 3 + 4 + 2
 abbrev pub all_rows : List Placement
-all_rows = placementAt wide1 (Stretched 1) 1 ∷ placementAt odd2 (Stretched 1) 5 ∷ placementAt wide3 (Stretched 0) 9 ∷ []
+all_rows = placement_at wide1 (Stretched 1) 1 ∷ placement_at odd2 (Stretched 1) 5 ∷ placement_at wide3 (Stretched 0) 9 ∷ []
 
 -- a net that is not in the worked job
 abbrev pub net6 : Net

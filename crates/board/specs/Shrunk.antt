@@ -6,7 +6,7 @@ use Rattle.board.specs.declared.Net.{Net}
 use Rattle.board.specs.declared.Shape.{Shape}
 use Rattle.board.specs.Length.{upper, extra, Allowed, shortest}
 use Rattle.board.specs.Job.{Job}
-use Rattle.board.specs.Placement.{Placement, shortestAt, bottom, Legal, Clear}
+use Rattle.board.specs.Placement.{Placement, shortest_at, bottom, Legal, Clear}
 
 -- shape o is allowed and covers no more rows than shape s
 pub record Shorter (board : Board) (n : Net) (s o : Shape) : Type 0 where
@@ -15,14 +15,14 @@ pub record Shorter (board : Board) (n : Net) (s o : Shape) : Type 0 where
 
 -- q is a placement of p's net at its shortest allowed length, within the rows of p, and clear on every track where p is
 pub record Shrunk (board : Board) (p q : Placement) : Type 0 where
-  pub same-net : q.net ≡ p.net
-  pub at-shortest : q.shape ≡ shortest board p.net
+  pub same_net : q.net ≡ p.net
+  pub at_shortest : q.shape ≡ shortest board p.net
   pub legal : Legal board q
-  pub from-top : p.top ≤ q.top
-  pub to-bottom : bottom q ≤ bottom p
+  pub from_top : p.top ≤ q.top
+  pub to_bottom : bottom q ≤ bottom p
   pub clear : (job : Job) (t : ℕ) → Clear job t p → Clear job t q
 
 -- the placement that p holds: its net at its shortest length, p's top kept where the shortest stretch reaches up to it, otherwise with its top
 -- at a − e
 abbrev pub shrunk : Board → Placement → Placement
-shrunk board p = shortestAt board p.net (max p.top (upper p.net - extra (shortest board p.net)))
+shrunk board p = shortest_at board p.net (max p.top (upper p.net - extra (shortest board p.net)))

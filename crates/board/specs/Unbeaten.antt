@@ -2,7 +2,7 @@
 use Rattle.std.specs.Prelude.{ℕ, suc, ◌≤◌, ◌<◌, ◌≡◌, List, [], ◌∷◌, ◌++◌, map, length, get_or, take}
 use Rattle.board.specs.Job.{Job}
 use Rattle.board.specs.Placement.{Placement}
-use Rattle.board.specs.Rival.{Rival, rivalSum}
+use Rattle.board.specs.Rival.{Rival, rival_sum}
 
 -- a filled track: its sum and its wires
 pub record FilledTrack : Type 0 where
@@ -10,25 +10,25 @@ pub record FilledTrack : Type 0 where
   pub wires : List Placement
 
 -- a track without wires, of sum 0
-abbrev pub emptyTrack : FilledTrack
-emptyTrack = record { sum = 0; wires = [] }
+abbrev pub empty_track : FilledTrack
+empty_track = record { sum = 0; wires = [] }
 
 -- the numbers of the nets of a track's wires
 abbrev pub numbers : List Placement → List ℕ
 numbers ps = map (λ p. p.net.number) ps
 
 -- the numbers of the nets of the wires of several tracks
-unfoldable pub numbersOn : List FilledTrack → List ℕ
-numbersOn [] = []
-numbersOn (tp ∷ tps) = numbers tp.wires ++ numbersOn tps
+unfoldable pub numbers_on : List FilledTrack → List ℕ
+numbers_on [] = []
+numbers_on (tp ∷ tps) = numbers tp.wires ++ numbers_on tps
 
 -- on track t no rival sequence has a larger sum than that of tp; the wires of tp are a rival sequence, and their sum is that of tp
 pub record Optimal (job : Job) (earlier : List ℕ) (t : ℕ) (tp : FilledTrack) : Type 0 where
-  pub most : (ps : List Placement) → Rival job earlier t ps → rivalSum ps ≤ tp.sum
+  pub most : (ps : List Placement) → Rival job earlier t ps → rival_sum ps ≤ tp.sum
   pub rival : Rival job earlier t tp.wires
-  pub sum_is : rivalSum tp.wires ≡ tp.sum
+  pub sum_is : rival_sum tp.wires ≡ tp.sum
 
 -- a plan has the job's tracks 1 to K, track i + 1 at place i, and each is optimal with the nets of the tracks before it held
 pub record Unbeaten (job : Job) (plan : List FilledTrack) : Type 0 where
   pub count : length plan ≡ job.board.tracks
-  pub each : (i : ℕ) → i < job.board.tracks → Optimal job (numbersOn (take i plan)) (suc i) (get_or plan i emptyTrack)
+  pub each : (i : ℕ) → i < job.board.tracks → Optimal job (numbers_on (take i plan)) (suc i) (get_or plan i empty_track)

@@ -5,24 +5,24 @@ use Rattle.std.specs.Prelude.{ℕ, List, [], ◌∷◌}
 use Rattle.board.specs.declared.Net.{Net}
 use Rattle.board.specs.declared.Shape.TheVariants.{Plain}
 use Rattle.board.specs.Job.{Job}
-use Rattle.board.specs.Placement.{Placement, placementAt}
+use Rattle.board.specs.Placement.{Placement, placement_at}
 
-abbrev pub tallNet : Net
-tallNet = record { number = 1; left = record { 0 = 1 }; right = record { 0 = 6 }; min = 0; max = 4095; weight = 6 }
+abbrev pub tall_net : Net
+tall_net = record { number = 1; left = record { 0 = 1 }; right = record { 0 = 6 }; min = 0; max = 4095; weight = 6 }
 
 -- net 2 with the weight w
-abbrev pub clockNet : ℕ → Net
-clockNet w = record { number = 2; left = record { 0 = 2 }; right = record { 0 = 3 }; min = 0; max = 4095; weight = w }
+abbrev pub clock_net : ℕ → Net
+clock_net w = record { number = 2; left = record { 0 = 2 }; right = record { 0 = 3 }; min = 0; max = 4095; weight = w }
 
-abbrev pub dataNet : Net
-dataNet = record { number = 3; left = record { 0 = 4 }; right = record { 0 = 5 }; min = 0; max = 4095; weight = 2 }
+abbrev pub data_net : Net
+data_net = record { number = 3; left = record { 0 = 4 }; right = record { 0 = 5 }; min = 0; max = 4095; weight = 2 }
 
-abbrev pub weightedJob : ℕ → Job
-weightedJob w = record { board = record { rows = 6; tracks = 1 }; nets = tallNet ∷ clockNet w ∷ dataNet ∷ []; blocks = [] }
+abbrev pub weighted_job : ℕ → Job
+weighted_job w = record { board = record { rows = 6; tracks = 1 }; nets = tall_net ∷ clock_net w ∷ data_net ∷ []; blocks = [] }
 
 -- the two rival sequences that fill the track
-abbrev pub tallAlone : List Placement
-tallAlone = placementAt tallNet Plain 1 ∷ []
+abbrev pub tall_alone : List Placement
+tall_alone = placement_at tall_net Plain 1 ∷ []
 
-abbrev pub twoShort : ℕ → List Placement
-twoShort w = placementAt (clockNet w) Plain 2 ∷ placementAt dataNet Plain 4 ∷ []
+abbrev pub two_short : ℕ → List Placement
+two_short w = placement_at (clock_net w) Plain 2 ∷ placement_at data_net Plain 4 ∷ []

@@ -6,16 +6,16 @@ use Rattle.board.specs.declared.Block.{Block}
 use Rattle.board.specs.Job.{Job}
 
 -- (rows 10) (tracks 2)
-abbrev pub workedBoard : Board
-workedBoard = record { rows = 10; tracks = 2 }
+abbrev pub worked_board : Board
+worked_board = record { rows = 10; tracks = 2 }
 
 -- (net 1 2 4 7 7)
 abbrev pub net1 : Net
 net1 = record { number = 1; left = record { 0 = 2 }; right = record { 0 = 4 }; min = 7; max = 7; weight = 3 }
 
 -- (net 1 2 4 7 7 w): net 1, which needs 3 rows, with a weight
-abbrev pub net1Weighing : ℕ → Net
-net1Weighing w = record { number = 1; left = record { 0 = 2 }; right = record { 0 = 4 }; min = 7; max = 7; weight = w }
+abbrev pub net1_weighing : ℕ → Net
+net1_weighing w = record { number = 1; left = record { 0 = 2 }; right = record { 0 = 4 }; min = 7; max = 7; weight = w }
 
 -- (net 2 6 8 11 12)
 abbrev pub net2 : Net
@@ -34,13 +34,13 @@ abbrev pub net5 : Net
 net5 = record { number = 5; left = record { 0 = 5 }; right = record { 0 = 6 }; min = 6; max = 6; weight = 2 }
 
 -- (block 2 6 6)
-abbrev pub workedBlock : Block
-workedBlock = record { track = record { 0 = 2 }; first = record { 0 = 6 }; last = record { 0 = 6 } }
+abbrev pub worked_block : Block
+worked_block = record { track = record { 0 = 2 }; first = record { 0 = 6 }; last = record { 0 = 6 } }
 
 -- the whole job
-abbrev pub workedJob : Job
-workedJob = record {
-  board = workedBoard;
+abbrev pub worked_job : Job
+worked_job = record {
+  board = worked_board;
   nets = net1 ∷ net2 ∷ net3 ∷ net4 ∷ net5 ∷ [];
-  blocks = workedBlock ∷ [];
+  blocks = worked_block ∷ [];
 }

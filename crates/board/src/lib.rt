@@ -102,7 +102,7 @@ pub fn span(net: Net) -> usize
 pub fn plain_length(board: Board, net: Net) -> usize
     requires board_in_range { BoardInRange board }
     requires net_in_range { NetInRange board net }
-    ensures { result ≡ lengths.plainLength board net }
+    ensures { result ≡ lengths.plain_length board net }
 {
     width(board) + span(net)
 }
@@ -168,7 +168,7 @@ pub fn needed(board: Board, net: Net) -> usize
 
 // max(1, a − e), the first top row of a net in a shape.
 pub fn first_top(net: Net, shape: Shape) -> Row
-    ensures { result.0 ≡ placements.firstTop net shape }
+    ensures { result.0 ≡ placements.first_top net shape }
 {
     let a = upper(net).0;
     let e = extra(shape);
@@ -180,7 +180,7 @@ pub fn last_top(board: Board, net: Net, shape: Shape) -> Row
     requires board_in_range { BoardInRange board }
     requires net_in_range { NetInRange board net }
     requires shape_bound { placements.covered net shape ≤ board.rows }
-    ensures { result.0 ≡ placements.lastTop board net shape }
+    ensures { result.0 ≡ placements.last_top board net shape }
 {
     let a = upper(net).0;
     let last = board.rows + 1 - covered(net, shape);

@@ -7,9 +7,9 @@ use lib.ListN.{length, set, replicate, length-append}
 use lib.Seq.{set-append_seam}
 use Rattle.candidates.specs.Placed.{padded}
 
-pub padded-more : (d i v : ℕ) (xs : List ℕ) → length xs ≡ i → i < 512 → set (padded d xs) i v ≡ padded d (xs ++ (v ∷ []))
+pub padded_more : (d i v : ℕ) (xs : List ℕ) → length xs ≡ i → i < 512 → set (padded d xs) i v ≡ padded d (xs ++ (v ∷ []))
 unfolding padded
-padded-more d i v xs l h =
+padded_more d i v xs l h =
     let m : length (xs ++ (v ∷ [])) ≡ suc i = length-append xs (v ∷ []) ∙ omega arith in
     let e : 512 - length xs ≡ suc (512 - suc i) = omega arith in
     rw (e, m, ← l) (set-append_seam xs d (replicate (512 - suc (length xs)) d) v ∙ sym (append_assoc xs (v ∷ []) (replicate (512 - suc (length xs)) d)))

@@ -4,7 +4,7 @@
 ghost use Rattle.std.specs.Prelude.{◌≡◌, ℕ, ◌-◌, ◌≤◌, ◌<◌, get_or, eqb};
 ghost use Rattle.board.specs.Stored.{job_of, AcceptedStored};
 ghost use Rattle.blockmap.specs.Bits.{MapOf};
-ghost use Rattle.candidates.specs.Placed.{indexFrom, precedingOf, eligibleAt, hasBlocks};
+ghost use Rattle.candidates.specs.Placed.{index_from, preceding_of, eligible_at, has_blocks};
 
 use blockmap::BlockMap;
 use board::{Row, StoredJob, Track};
@@ -33,7 +33,7 @@ pub struct NetTops {
 // Whether any block is on the track.
 pub fn has_blocks(job: &StoredJob, track: Track) -> bool
     requires { AcceptedStored job.now }
-    ensures { result ≡ hasBlocks (job_of job.now) track.0 }
+    ensures { result ≡ has_blocks (job_of job.now) track.0 }
 {
     let nblocks = job.nblocks;
     for i in 0..nblocks {
@@ -62,7 +62,7 @@ pub fn block_map(job: &StoredJob, track: Track) -> BlockMap
 // For each row, at index row − 1, the index of the net whose left pin is there, 512 if there is none.
 fn nets_by_left(job: &StoredJob) -> [usize; 1024]
     requires { AcceptedStored job.now }
-    ensures { (row : ℕ) → 1 ≤ row → row ≤ 1024 → get_or result (row - 1) 0 ≡ indexFrom (λ n. eqb n.left.0 row) 0 (job_of job.now).nets }
+    ensures { (row : ℕ) → 1 ≤ row → row ≤ 1024 → get_or result (row - 1) 0 ≡ index_from (λ n. eqb n.left.0 row) 0 (job_of job.now).nets }
 {
     let nnets = job.nnets;
     let mut by_left = [512usize; 1024];
@@ -77,7 +77,7 @@ fn nets_by_left(job: &StoredJob) -> [usize; 1024]
 // For each net, the index of the net that precedes it, 512 if there is none: worked out once a job, so that eligibility is a look-up.
 pub fn preceding(job: &StoredJob) -> [usize; 512]
     requires { AcceptedStored job.now }
-    ensures { result ≡ precedingOf (job_of job.now) }
+    ensures { result ≡ preceding_of (job_of job.now) }
 {
     let nnets = job.nnets;
     let by_left = nets_by_left(job);
@@ -93,7 +93,7 @@ pub fn preceding(job: &StoredJob) -> [usize; 512]
 // Whether net i is eligible, where `before` is the index of the net that precedes it, or 512, and placed[k] is the track of net k, or 0.
 pub fn is_eligible(before: usize, placed: &[usize; 512], i: usize) -> bool
     requires { (before ≤ 512) × (i < 512) }
-    ensures { result ≡ eligibleAt before placed.now i }
+    ensures { result ≡ eligible_at before placed.now i }
 {
     if placed[i] != 0 {
         return false;

@@ -6,60 +6,60 @@ use mathlib.Core.List.{List}
 use lib.Dec.{leb}
 use lib.ListN.{length}
 use borrow.Author.Tests.{leb-true, leb-false}
-use Rattle.lists.proofs.Cases.{by-test}
+use Rattle.lists.proofs.Cases.{by_test}
 use Rattle.board.specs.Accepted.{AcceptedJob}
 use Rattle.jobfile.specs.Read.{Read, accepted, refused}
 use Rattle.jobfile.specs.Faults.{FirstFault}
-use Rattle.jobfile.proofs.Accepts.{read-accepted}
-use Rattle.jobfile.proofs.Refusals.{faultless-accepted}
+use Rattle.jobfile.proofs.Accepts.{read_accepted}
+use Rattle.jobfile.proofs.Refusals.{faultless_accepted}
 use Rattle.sound.specs.Sound.{Sound}
-use Rattle.drc.specs.Judge.{Verdict, sound-text, broken-at, judge}
-use Rattle.drc.proofs.FirstBroken.{judge-breach, judge-first}
-use Rattle.drc.proofs.JudgeSound.{judge-sound}
+use Rattle.drc.specs.Judge.{Verdict, sound_text, broken_at, judge}
+use Rattle.drc.proofs.FirstBroken.{judge_breach, judge_first}
+use Rattle.drc.proofs.JudgeSound.{judge_sound}
 use Rattle.checker.specs.declared.CheckAnswer.{CheckAnswer}
 use Rattle.checker.specs.declared.CheckAnswer.TheVariants.{Refused, LayoutTooLong, Passes, Broken}
-use Rattle.checker.specs.Answers.{checkValues, verdictValues, documentVerdict, verdictAnswer, checkAnswer}
-use Rattle.checker.specs.RightVerdict.{Faultless, jobHeld, FirstBreach}
+use Rattle.checker.specs.Answers.{check_values, verdict_values, document_verdict, verdict_answer, check_answer}
+use Rattle.checker.specs.RightVerdict.{Faultless, job_held, FirstBreach}
 
 module _ (job layout : List ℕ) where
   -- what holds where the answer is given
   abbrev pub Holds : CheckAnswer → Type 0
   Holds (Refused o) = FirstFault job o
   Holds LayoutTooLong = Faultless job × (64000 < length layout)
-  Holds Passes = Faultless job × Sound (jobHeld job) layout
-  Holds (Broken l) = Faultless job × (length layout ≤ 64000) × FirstBreach (jobHeld job) layout l
+  Holds Passes = Faultless job × Sound (job_held job) layout
+  Holds (Broken l) = Faultless job × (length layout ≤ 64000) × FirstBreach (job_held job) layout l
 
-  pub held-accepted : Faultless job → AcceptedJob (jobHeld job)
-  held-accepted f = read-accepted job (jobHeld job) (faultless-accepted job f)
+  pub held_accepted : Faultless job → AcceptedJob (job_held job)
+  held_accepted f = read_accepted job (job_held job) (faultless_accepted job f)
 
   -- ---- the answer of the definitions holds
 
-  broken-holds : Faultless job → length layout ≤ 64000 → (l : ℕ) → judge (jobHeld job) layout ≡ broken-at l → Holds (Broken l)
-  broken-holds f n l e = (
+  broken_holds : Faultless job → length layout ≤ 64000 → (l : ℕ) → judge (job_held job) layout ≡ broken_at l → Holds (Broken l)
+  broken_holds f n l e = (
     f,
     n,
-    record { breach = judge-breach (jobHeld job) (held-accepted f) layout l e; first = λ m b. judge-first (jobHeld job) (held-accepted f) layout l m e b },
+    record { breach = judge_breach (job_held job) (held_accepted f) layout l e; first = λ m b. judge_first (job_held job) (held_accepted f) layout l m e b },
   )
 
-  verdict-holds : Faultless job → length layout ≤ 64000 → (v : Verdict) → judge (jobHeld job) layout ≡ v → Holds (verdictAnswer v)
-  unfolding verdictAnswer
-  verdict-holds f n sound-text e = (f, judge-sound (jobHeld job) (held-accepted f) layout e)
-  verdict-holds f n (broken-at l) e = broken-holds f n l e
+  verdict_holds : Faultless job → length layout ≤ 64000 → (v : Verdict) → judge (job_held job) layout ≡ v → Holds (verdict_answer v)
+  unfolding verdict_answer
+  verdict_holds f n sound_text e = (f, judge_sound (job_held job) (held_accepted f) layout e)
+  verdict_holds f n (broken_at l) e = broken_holds f n l e
 
-  pub accepted-holds : Faultless job → Holds (checkAnswer (accepted (jobHeld job)) layout)
-  unfolding checkAnswer
-  accepted-holds f =
-      by-test (leb (length layout) 64000)
-      (λ t. rw t (verdict-holds f (leb-true (length layout) 64000 t) (judge (jobHeld job) layout) refl))
+  pub accepted_holds : Faultless job → Holds (check_answer (accepted (job_held job)) layout)
+  unfolding check_answer
+  accepted_holds f =
+      by_test (leb (length layout) 64000)
+      (λ t. rw t (verdict_holds f (leb-true (length layout) 64000 t) (judge (job_held job) layout) refl))
       (λ t. rw t (f, leb-false (length layout) 64000 t))
 
   -- the answer has the document's number, word and line
-  values_of : (v : Verdict) → checkValues (verdictAnswer v) ≡ verdictValues v
-  unfolding verdictAnswer verdictValues
-  values_of sound-text = refl
-  values_of (broken-at l) = refl
+  values_of : (v : Verdict) → check_values (verdict_answer v) ≡ verdict_values v
+  unfolding verdict_answer verdict_values
+  values_of sound_text = refl
+  values_of (broken_at l) = refl
 
-  pub values-as : (y : Read) → checkValues (checkAnswer y layout) ≡ documentVerdict y layout
-  unfolding checkAnswer documentVerdict
-  values-as (refused o) = refl
-  values-as (accepted j) = by-test (leb (length layout) 64000) (λ t. rw t (values_of (judge j layout))) (λ t. rw t refl)
+  pub values_as : (y : Read) → check_values (check_answer y layout) ≡ document_verdict y layout
+  unfolding check_answer document_verdict
+  values_as (refused o) = refl
+  values_as (accepted j) = by_test (leb (length layout) 64000) (λ t. rw t (values_of (judge j layout))) (λ t. rw t refl)

@@ -7,89 +7,89 @@ use native.Mathlib.Omega.{arith}
 use lib.ListN.{length}
 use Rattle.board.specs.Job.{Job}
 use Rattle.jobfile.specs.declared.Outcome.{Outcome}
-use Rattle.jobfile.specs.Read.{Read, accepted, refused, readJob}
+use Rattle.jobfile.specs.Read.{Read, accepted, refused, read_job}
 use Rattle.jobfile.specs.Faults.{Fault, FirstFault}
-use Rattle.jobfile.proofs.Refusals.{read-refused, read-faultless, read_held, first-refused}
+use Rattle.jobfile.proofs.Refusals.{read_refused, read_faultless, read_held, first_refused}
 use Rattle.sound.specs.Sound.{Sound}
-use Rattle.sound.proofs.Bounds.{sound-length}
-use Rattle.drc.proofs.JudgeSound.{sound-unbroken}
-use Rattle.checker.proofs.AnswerHolds.{Holds, held-accepted, accepted-holds, values-as}
+use Rattle.sound.proofs.Bounds.{sound_length}
+use Rattle.drc.proofs.JudgeSound.{sound_unbroken}
+use Rattle.checker.proofs.AnswerHolds.{Holds, held_accepted, accepted_holds, values_as}
 use Rattle.checker.specs.declared.CheckAnswer.{CheckAnswer}
 use Rattle.checker.specs.declared.CheckAnswer.TheVariants.{Refused, LayoutTooLong, Passes, Broken}
-use Rattle.checker.specs.Answers.{checkValues, documentVerdict, checkAnswer}
-use Rattle.checker.specs.RightVerdict.{Faultless, jobHeld, FirstBreach, RightVerdict}
+use Rattle.checker.specs.Answers.{check_values, document_verdict, check_answer}
+use Rattle.checker.specs.RightVerdict.{Faultless, job_held, FirstBreach, RightVerdict}
 
 module _ (job layout : List ℕ) where
   -- ---- at most one answer holds
 
-  one-fault : (o p : Outcome) → FirstFault job o → FirstFault job p → o ≡ p
-  one-fault o p f g = let e : refused o ≡ refused p = sym (first-refused job o f) ∙ first-refused job p g in cc
+  one_fault : (o p : Outcome) → FirstFault job o → FirstFault job p → o ≡ p
+  one_fault o p f g = let e : refused o ≡ refused p = sym (first_refused job o f) ∙ first_refused job p g in cc
 
-  one-breach : (l m : ℕ) → FirstBreach (jobHeld job) layout l → FirstBreach (jobHeld job) layout m → l ≡ m
-  one-breach l m b c = omega (arith, b.first m c.breach, c.first l b.breach)
+  one_breach : (l m : ℕ) → FirstBreach (job_held job) layout l → FirstBreach (job_held job) layout m → l ≡ m
+  one_breach l m b c = omega (arith, b.first m c.breach, c.first l b.breach)
 
-  sound-short : Faultless job → Sound (jobHeld job) layout → length layout ≤ 64000
-  sound-short f s = sound-length (jobHeld job) (held-accepted job layout f) layout s
+  sound_short : Faultless job → Sound (job_held job) layout → length layout ≤ 64000
+  sound_short f s = sound_length (job_held job) (held_accepted job layout f) layout s
 
-  unbroken : (l : ℕ) → Faultless job → Sound (jobHeld job) layout → FirstBreach (jobHeld job) layout l → ⊥
-  unbroken l f s b = (sound-unbroken (jobHeld job) (held-accepted job layout f) layout).0 s l b.breach
+  unbroken : (l : ℕ) → Faultless job → Sound (job_held job) layout → FirstBreach (job_held job) layout l → ⊥
+  unbroken l f s b = (sound_unbroken (job_held job) (held_accepted job layout f) layout).0 s l b.breach
 
   one_answer : (a b : CheckAnswer) → (Holds job layout) a → (Holds job layout) b → a ≡ b
-  one_answer (Refused o) (Refused p) h g = ap Refused (one-fault o p h g)
+  one_answer (Refused o) (Refused p) h g = ap Refused (one_fault o p h g)
   one_answer (Refused o) LayoutTooLong h g = absurd (g.0 o h.fault)
   one_answer (Refused o) Passes h g = absurd (g.0 o h.fault)
   one_answer (Refused o) (Broken l) h g = absurd (g.0 o h.fault)
   one_answer LayoutTooLong (Refused p) h g = absurd (h.0 p g.fault)
   one_answer LayoutTooLong LayoutTooLong h g = refl
-  one_answer LayoutTooLong Passes h g = absurd (omega (arith, h.1, sound-short g.0 g.1))
+  one_answer LayoutTooLong Passes h g = absurd (omega (arith, h.1, sound_short g.0 g.1))
   one_answer LayoutTooLong (Broken l) h g = absurd (omega (arith, h.1, g.1))
   one_answer Passes (Refused p) h g = absurd (h.0 p g.fault)
-  one_answer Passes LayoutTooLong h g = absurd (omega (arith, g.1, sound-short h.0 h.1))
+  one_answer Passes LayoutTooLong h g = absurd (omega (arith, g.1, sound_short h.0 h.1))
   one_answer Passes Passes h g = refl
   one_answer Passes (Broken l) h g = absurd (unbroken l h.0 h.1 g.2)
   one_answer (Broken l) (Refused p) h g = absurd (h.0 p g.fault)
   one_answer (Broken l) LayoutTooLong h g = absurd (omega (arith, h.1, g.1))
   one_answer (Broken l) Passes h g = absurd (unbroken l g.0 g.1 h.2)
-  one_answer (Broken l) (Broken m) h g = ap Broken (one-breach l m h.2 g.2)
+  one_answer (Broken l) (Broken m) h g = ap Broken (one_breach l m h.2 g.2)
 
   -- ---- an answer that holds is right
 
-  fault-answer : (a : CheckAnswer) → (Holds job layout) a → (o : Outcome) → Fault job o → (p : Outcome) × (a ≡ Refused p)
-  fault-answer (Refused p) h o f = (p, refl)
-  fault-answer LayoutTooLong h o f = absurd (h.0 o f)
-  fault-answer Passes h o f = absurd (h.0 o f)
-  fault-answer (Broken l) h o f = absurd (h.0 o f)
+  fault_answer : (a : CheckAnswer) → (Holds job layout) a → (o : Outcome) → Fault job o → (p : Outcome) × (a ≡ Refused p)
+  fault_answer (Refused p) h o f = (p, refl)
+  fault_answer LayoutTooLong h o f = absurd (h.0 o f)
+  fault_answer Passes h o f = absurd (h.0 o f)
+  fault_answer (Broken l) h o f = absurd (h.0 o f)
 
-  unsound-answer : (a : CheckAnswer) → (Holds job layout) a → Faultless job → length layout ≤ 64000 → (Sound (jobHeld job) layout → ⊥) → (l : ℕ) × (a ≡ Broken l)
-  unsound-answer (Refused o) h f n u = absurd (f o h.fault)
-  unsound-answer LayoutTooLong h f n u = absurd (omega (arith, h.1))
-  unsound-answer Passes h f n u = absurd (u h.1)
-  unsound-answer (Broken l) h f n u = (l, refl)
+  unsound_answer : (a : CheckAnswer) → (Holds job layout) a → Faultless job → length layout ≤ 64000 → (Sound (job_held job) layout → ⊥) → (l : ℕ) × (a ≡ Broken l)
+  unsound_answer (Refused o) h f n u = absurd (f o h.fault)
+  unsound_answer LayoutTooLong h f n u = absurd (omega (arith, h.1))
+  unsound_answer Passes h f n u = absurd (u h.1)
+  unsound_answer (Broken l) h f n u = (l, refl)
 
-  right-where : (a : CheckAnswer) → (Holds job layout) a → RightVerdict job layout a
-  right-where a h =
+  right_where : (a : CheckAnswer) → (Holds job layout) a → RightVerdict job layout a
+  right_where a h =
       record {
-        refused-for = λ o. (λ e. subst (Holds job layout) e h, one_answer a (Refused o) h);
-        fault-refused = fault-answer a h;
-        too-long-for = (λ e. subst (Holds job layout) e h, one_answer a LayoutTooLong h);
-        passes-for = (λ e. subst (Holds job layout) e h, one_answer a Passes h);
-        broken-for = λ l. (λ e. subst (Holds job layout) e h, one_answer a (Broken l) h);
-        unsound-broken = unsound-answer a h;
+        refused_for = λ o. (λ e. subst (Holds job layout) e h, one_answer a (Refused o) h);
+        fault_refused = fault_answer a h;
+        too_long_for = (λ e. subst (Holds job layout) e h, one_answer a LayoutTooLong h);
+        passes_for = (λ e. subst (Holds job layout) e h, one_answer a Passes h);
+        broken_for = λ l. (λ e. subst (Holds job layout) e h, one_answer a (Broken l) h);
+        unsound_broken = unsound_answer a h;
       }
 
   -- ---- the answer of the definitions holds
 
-  answer-holds : (y : Read) → readJob job ≡ y → (Holds job layout) (checkAnswer y layout)
-  unfolding checkAnswer
-  answer-holds (refused o) e = read-refused job o e
-  answer-holds (accepted j) e =
-      subst (λ (k : Job). (Holds job layout) (checkAnswer (accepted k) layout)) (sym (read_held job j e)) (accepted-holds job layout (read-faultless job j e))
+  answer_holds : (y : Read) → read_job job ≡ y → (Holds job layout) (check_answer y layout)
+  unfolding check_answer
+  answer_holds (refused o) e = read_refused job o e
+  answer_holds (accepted j) e =
+      subst (λ (k : Job). (Holds job layout) (check_answer (accepted k) layout)) (sym (read_held job j e)) (accepted_holds job layout (read_faultless job j e))
 
   -- the theorem
-  pub check-right : RightVerdict job layout (checkAnswer (readJob job) layout)
-  check-right = right-where (checkAnswer (readJob job) layout) (answer-holds (readJob job) refl)
+  pub check_right : RightVerdict job layout (check_answer (read_job job) layout)
+  check_right = right_where (check_answer (read_job job) layout) (answer_holds (read_job job) refl)
 
   -- and of an answer that is given
-  pub right-verdict : (a : CheckAnswer) → a ≡ checkAnswer (readJob job) layout →
-      (a ≡ checkAnswer (readJob job) layout) × ((checkValues a ≡ documentVerdict (readJob job) layout) × RightVerdict job layout a)
-  right-verdict a e = (e, (ap checkValues e ∙ values-as job layout (readJob job), subst (RightVerdict job layout) (sym e) check-right))
+  pub right_verdict : (a : CheckAnswer) → a ≡ check_answer (read_job job) layout →
+      (a ≡ check_answer (read_job job) layout) × ((check_values a ≡ document_verdict (read_job job) layout) × RightVerdict job layout a)
+  right_verdict a e = (e, (ap check_values e ∙ values_as job layout (read_job job), subst (RightVerdict job layout) (sym e) check_right))

@@ -3,7 +3,7 @@
 use Rattle.std.specs.Prelude.{ℕ, ◌≤◌, ◌<◌, ◌≡◌, ◌↔◌, List, length}
 use Rattle.board.specs.Job.{Job}
 use Rattle.jobfile.specs.declared.Outcome.{Outcome}
-use Rattle.jobfile.specs.Faults.{formsOf, jobIn, Fault, FirstFault}
+use Rattle.jobfile.specs.Faults.{forms_of, job_in, Fault, FirstFault}
 use Rattle.sound.specs.Sound.{Sound}
 use Rattle.drc.specs.Breach.{Breach}
 use Rattle.checker.specs.declared.CheckAnswer.{CheckAnswer}
@@ -14,8 +14,8 @@ abbrev pub Faultless : List ℕ → Type 0
 Faultless job = (o : Outcome) → Fault job o → ⊥
 
 -- the job that the lines of a job file hold
-abbrev pub jobHeld : List ℕ → Job
-jobHeld job = jobIn (formsOf job)
+abbrev pub job_held : List ℕ → Job
+job_held job = job_in (forms_of job)
 
 -- line l of the layout text is broken, and no line above it is
 pub record FirstBreach (job : Job) (layout : List ℕ) (l : ℕ) : Type 0 where
@@ -25,13 +25,13 @@ pub record FirstBreach (job : Job) (layout : List ℕ) (l : ℕ) : Type 0 where
 -- the answer for a job file and a layout text
 pub record RightVerdict (job layout : List ℕ) (answer : CheckAnswer) : Type 0 where
   -- refused as read does: for the first fault of the job file, and a job file with a fault gets no other answer
-  pub refused-for : (o : Outcome) → (answer ≡ Refused o) ↔ FirstFault job o
-  pub fault-refused : (o : Outcome) → Fault job o → (p : Outcome) × (answer ≡ Refused p)
+  pub refused_for : (o : Outcome) → (answer ≡ Refused o) ↔ FirstFault job o
+  pub fault_refused : (o : Outcome) → Fault job o → (p : Outcome) × (answer ≡ Refused p)
   -- refusal 11: exactly where the job file has no fault and the layout text is above 64,000 bytes
-  pub too-long-for : (answer ≡ LayoutTooLong) ↔ (Faultless job × (64000 < length layout))
+  pub too_long_for : (answer ≡ LayoutTooLong) ↔ (Faultless job × (64000 < length layout))
   -- sound: exactly where the job file has no fault and the layout keeps every rule. No such layout is above 64,000 bytes
-  pub passes-for : (answer ≡ Passes) ↔ (Faultless job × Sound (jobHeld job) layout)
+  pub passes_for : (answer ≡ Passes) ↔ (Faultless job × Sound (job_held job) layout)
   -- broken with a line: exactly where the job file has no fault, the layout text is at most 64,000 bytes, and that line is its first
   -- broken one; and a layout text that does not keep every rule gets such an answer
-  pub broken-for : (l : ℕ) → (answer ≡ Broken l) ↔ (Faultless job × (length layout ≤ 64000) × FirstBreach (jobHeld job) layout l)
-  pub unsound-broken : Faultless job → length layout ≤ 64000 → (Sound (jobHeld job) layout → ⊥) → (l : ℕ) × (answer ≡ Broken l)
+  pub broken_for : (l : ℕ) → (answer ≡ Broken l) ↔ (Faultless job × (length layout ≤ 64000) × FirstBreach (job_held job) layout l)
+  pub unsound_broken : Faultless job → length layout ≤ 64000 → (Sound (job_held job) layout → ⊥) → (l : ℕ) × (answer ≡ Broken l)

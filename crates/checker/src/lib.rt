@@ -4,12 +4,12 @@
 ghost use Rattle.std.specs.Prelude.{◌≡◌, List, ℕ, ◌≤◌, length};
 ghost use Rattle.board.specs.Job.{Job};
 ghost use Rattle.board.specs.Stored.{job_of};
-ghost use Rattle.jobfile.specs.Read.{readJob};
+ghost use Rattle.jobfile.specs.Read.{read_job};
 ghost use Rattle.drc.specs.Judge.{judge};
-ghost use Rattle.drc.specs.Pass.{PassState, passEnd};
+ghost use Rattle.drc.specs.Pass.{PassState, pass_end};
 ghost use Rattle.judging.specs.Judged.{KeepsState};
 ghost use Rattle.layoutsteps.specs.Found.{NetTables};
-ghost use Rattle.checker.specs.Answers.{checkValues, verdictAnswer, documentVerdict, checkAnswer};
+ghost use Rattle.checker.specs.Answers.{check_values, verdict_answer, document_verdict, check_answer};
 ghost use Rattle.checker.specs.RightVerdict.{RightVerdict};
 
 use board::{StoredJob, Track};
@@ -33,7 +33,7 @@ pub enum CheckAnswer {
 
 // The number of a refusal; 0 where nothing is refused.
 pub fn check_number(answer: CheckAnswer) -> usize
-    ensures { result ≡ (checkValues answer).number }
+    ensures { result ≡ (check_values answer).number }
 {
     match answer {
         CheckAnswer::Refused(outcome) => jobrules::number_of(outcome),
@@ -45,7 +45,7 @@ pub fn check_number(answer: CheckAnswer) -> usize
 
 // Whether the layout is broken.
 pub fn is_broken(answer: CheckAnswer) -> bool
-    ensures { result ≡ (checkValues answer).broken }
+    ensures { result ≡ (check_values answer).broken }
 {
     match answer {
         CheckAnswer::Refused(_) => false,
@@ -57,7 +57,7 @@ pub fn is_broken(answer: CheckAnswer) -> bool
 
 // The line that a refusal or a broken layout names; 0 where none is named.
 pub fn check_line(answer: CheckAnswer) -> usize
-    ensures { result ≡ (checkValues answer).line }
+    ensures { result ≡ (check_values answer).line }
 {
     match answer {
         CheckAnswer::Refused(outcome) => jobrules::line_of(outcome),
@@ -69,7 +69,7 @@ pub fn check_line(answer: CheckAnswer) -> usize
 
 // The end of the text, where `line` is the line after the last.
 fn finish(m: LinesJudged, line: usize) -> CheckAnswer
-    ensures { (job : Job) (st : PassState) (stands : List ℕ) → KeepsState job st m stands → result ≡ verdictAnswer (passEnd line st) }
+    ensures { (job : Job) (st : PassState) (stands : List ℕ) → KeepsState job st m stands → result ≡ verdict_answer (pass_end line st) }
 {
     if m.stage == judging::FINISHED {
         return CheckAnswer::Passes;
@@ -88,7 +88,7 @@ fn judge_lines<'a>(
 ) -> CheckAnswer
     requires net_tables { NetTables job.now numbers.now before.now }
     requires text_len_bound { length text.now ≤ 64000 }
-    ensures { result ≡ verdictAnswer (judge (job_of job.now) text.now) }
+    ensures { result ≡ verdict_answer (judge (job_of job.now) text.now) }
 {
     let board = job.board;
     let count = job.nnets;
@@ -120,8 +120,8 @@ fn judge_lines<'a>(
 
 // Checks a layout text for a job: the job first, then the length of the text, then its lines.
 pub fn check(job: &[u8], layout: &[u8]) -> CheckAnswer
-    ensures answer { result ≡ checkAnswer (readJob job.now) layout.now }
-    ensures values { checkValues result ≡ documentVerdict (readJob job.now) layout.now }
+    ensures answer { result ≡ check_answer (read_job job.now) layout.now }
+    ensures values { check_values result ≡ document_verdict (read_job job.now) layout.now }
     ensures right { RightVerdict job.now layout.now result }
 {
     let answer = reader::read(job);

@@ -11,7 +11,7 @@ use borrow.Author.Tests.{eq-eqb, ne_eqb}
 use Rattle.lists.specs.Lists.{Each, EachPair}
 use Rattle.board.specs.declared.Net.{Net}
 use Rattle.board.specs.Job.{Job}
-use Rattle.candidates.specs.Placed.{indexFrom}
+use Rattle.candidates.specs.Placed.{index_from}
 use Rattle.choice.specs.TrackPlans.{index_of}
 
 -- the net at place x, and what follows it
@@ -20,21 +20,21 @@ Each-drop P [] x e a = absurd (nil≢cons (sym (drop-nil x) ∙ e))
 Each-drop P (m ∷ l) zero e a = rw (head-eq_of_cons-eq e) at a.0
 Each-drop P (m ∷ l) (suc x) e a = Each-drop P l x e a.1
 
-pub drop-next : {A : Type 0} (l : List A) (x : ℕ) {n : A} {ns : List A} → drop x l ≡ n ∷ ns → drop (suc x) l ≡ ns
-drop-next [] x e = absurd (nil≢cons (sym (drop-nil x) ∙ e))
-drop-next (m ∷ l) zero e = tail-eq_of_cons-eq e
-drop-next (m ∷ l) (suc x) e = drop-next l x e
+pub drop_next : {A : Type 0} (l : List A) (x : ℕ) {n : A} {ns : List A} → drop x l ≡ n ∷ ns → drop (suc x) l ≡ ns
+drop_next [] x e = absurd (nil≢cons (sym (drop-nil x) ∙ e))
+drop_next (m ∷ l) zero e = tail-eq_of_cons-eq e
+drop_next (m ∷ l) (suc x) e = drop_next l x e
 
-index-place : (i : ℕ) (l : List Net) (x : ℕ) {n : Net} {ns : List Net} → EachPair (λ a b. a.number < b.number) l → drop x l ≡ n ∷ ns →
-    indexFrom (λ m. eqb m.number n.number) i l ≡ i + x
-unfolding indexFrom
-index-place i [] x r e = absurd (nil≢cons (sym (drop-nil x) ∙ e))
-index-place i (m ∷ l) zero {n} r e = rw (eq-eqb m.number n.number (ap (λ (k : Net). k.number) (head-eq_of_cons-eq e))) (omega arith)
-index-place i (m ∷ l) (suc x) {n} r e =
+index_place : (i : ℕ) (l : List Net) (x : ℕ) {n : Net} {ns : List Net} → EachPair (λ a b. a.number < b.number) l → drop x l ≡ n ∷ ns →
+    index_from (λ m. eqb m.number n.number) i l ≡ i + x
+unfolding index_from
+index_place i [] x r e = absurd (nil≢cons (sym (drop-nil x) ∙ e))
+index_place i (m ∷ l) zero {n} r e = rw (eq-eqb m.number n.number (ap (λ (k : Net). k.number) (head-eq_of_cons-eq e))) (omega arith)
+index_place i (m ∷ l) (suc x) {n} r e =
     let h : m.number < n.number = Each-drop (λ b. m.number < b.number) l x e r.0 in
-    rw (ne_eqb m.number n.number (λ (z : m.number ≡ n.number). omega arith)) (index-place (suc i) l x r.1 e ∙ omega arith)
+    rw (ne_eqb m.number n.number (λ (z : m.number ≡ n.number). omega arith)) (index_place (suc i) l x r.1 e ∙ omega arith)
 
-pub index-of-place : (job : Job) (x : ℕ) {n : Net} {ns : List Net} → EachPair (λ a b. a.number < b.number) job.nets →
+pub index_of_place : (job : Job) (x : ℕ) {n : Net} {ns : List Net} → EachPair (λ a b. a.number < b.number) job.nets →
     drop x job.nets ≡ n ∷ ns → index_of job (some n) ≡ x
 unfolding index_of
-index-of-place job x r e = index-place 0 job.nets x r e ∙ omega arith
+index_of_place job x r e = index_place 0 job.nets x r e ∙ omega arith

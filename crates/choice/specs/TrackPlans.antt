@@ -3,29 +3,29 @@ use Rattle.std.specs.Prelude.{ℕ, zero, suc, ◌-◌, List, [], ◌∷◌, ◌+
 use Rattle.std.proofs.Math.Option.{Option, none, some}
 use Rattle.board.specs.declared.Net.{Net}
 use Rattle.board.specs.Job.{Job}
-use Rattle.candidates.specs.Placed.{indexFrom}
+use Rattle.candidates.specs.Placed.{index_from}
 use Rattle.packing.specs.Best.{best}
-use Rattle.packing.specs.Walk.{choiceAt}
+use Rattle.packing.specs.Walk.{choice_at}
 use Rattle.choice.specs.declared.TrackPlan.{TrackPlan}
 
 -- what stands for no net
-abbrev pub noChoice : ℕ
-noChoice = 512
+abbrev pub no_choice : ℕ
+no_choice = 512
 
--- the index of a chosen net, by its number; noChoice where none is chosen
+-- the index of a chosen net, by its number; no_choice where none is chosen
 unfoldable pub index_of : Job → Option Net → ℕ
-index_of job none = noChoice
-index_of job (some n) = indexFrom (λ m. eqb m.number n.number) 0 job.nets
+index_of job none = no_choice
+index_of job (some n) = index_from (λ m. eqb m.number n.number) 0 job.nets
 
 -- the choices of the last k rows, row H − k + 1 first
-unfoldable pub choicesOf : Job → List ℕ → ℕ → ℕ → List ℕ
-choicesOf job earlier t zero = []
-choicesOf job earlier t (suc k) = index_of job (choiceAt job earlier t (job.board.rows - k)) ∷ choicesOf job earlier t k
+unfoldable pub choices_of : Job → List ℕ → ℕ → ℕ → List ℕ
+choices_of job earlier t zero = []
+choices_of job earlier t (suc k) = index_of job (choice_at job earlier t (job.board.rows - k)) ∷ choices_of job earlier t k
 
 -- the plan of track t, where `earlier` has the numbers of the nets on earlier tracks
-unfoldable pub trackPlanOf : Job → List ℕ → ℕ → TrackPlan
-trackPlanOf job earlier t =
+unfoldable pub track_plan_of : Job → List ℕ → ℕ → TrackPlan
+track_plan_of job earlier t =
     record {
-      choice = choicesOf job earlier t job.board.rows ++ replicate (1024 - job.board.rows) noChoice;
+      choice = choices_of job earlier t job.board.rows ++ replicate (1024 - job.board.rows) no_choice;
       sum = best job earlier t 1;
     }

@@ -2,7 +2,7 @@
 #![tactic(auto)]
 
 ghost use Rattle.std.specs.Prelude.{◌≡◌, ◌+◌, ◌*◌, ◌≤◌, ◌<◌, length};
-ghost use Rattle.choice.specs.Filled.{lent, hasClearTop, better, inBand, bandTo, pickAmong, filledPlan, InBounds, RowInBounds};
+ghost use Rattle.choice.specs.Filled.{lent, has_clear_top, better, in_band, band_to, pick_among, filled_plan, InBounds, RowInBounds};
 
 use board::Row;
 use candidates::Candidates;
@@ -48,7 +48,7 @@ fn has_clear_top<'a>(
     row: Row,
 ) -> bool
     requires { (i < 512) × (1 ≤ row.0) × (row.0 ≤ 1024) × (i * 1088 + 1024 ≤ length flags.now) }
-    ensures { result ≡ hasClearTop first.now last.now flags.now row.0 i }
+    ensures { result ≡ has_clear_top first.now last.now flags.now row.0 i }
 {
     let j = row.0;
     // one test of both ends, since either alone is as likely to hold as not
@@ -62,7 +62,7 @@ fn has_clear_top<'a>(
 // Whether candidate i has a top in rows lo to hi.
 fn has_top<'a>(first: &'a [usize; 512], last: &'a [usize; 512], i: usize, lo: Row, hi: Row) -> bool
     requires { i < 512 }
-    ensures { result ≡ inBand first.now last.now lo.0 hi.0 i }
+    ensures { result ≡ in_band first.now last.now lo.0 hi.0 i }
 {
     let start = lo.0;
     let end = hi.0;
@@ -78,7 +78,7 @@ fn band_of<'a>(
     hi: Row,
 ) -> Band
     requires { count ≤ 512 }
-    ensures { result ≡ bandTo first.now last.now lo.0 hi.0 count }
+    ensures { result ≡ band_to first.now last.now lo.0 hi.0 count }
 {
     let mut index = [0usize; 512];
     let mut listed = 0;
@@ -118,7 +118,7 @@ fn row_pick<'a>(
     row: Row,
 ) -> Pick
     requires { RowInBounds (lent listed net.now need.now weight.now first.now last.now) flags.now best.now row.0 index.now }
-    ensures { result ≡ pickAmong (lent listed net.now need.now weight.now first.now last.now) flags.now best.now row.0 index.now listed }
+    ensures { result ≡ pick_among (lent listed net.now need.now weight.now first.now last.now) flags.now best.now row.0 index.now listed }
 {
     let j = row.0;
     let next = best[j + 1];
@@ -138,7 +138,7 @@ fn row_pick<'a>(
 // rows, the candidates that have a top in it are listed, so that no row looks at the others; `start` is the first row of that band.
 pub fn fill(c: Candidates, flags: &[u8], rows: usize) -> TrackPlan
     requires { InBounds c flags.now rows }
-    ensures { result ≡ filledPlan c flags.now rows }
+    ensures { result ≡ filled_plan c flags.now rows }
 {
     let mut best = [0usize; 1026];
     let mut choice = [512usize; 1024];

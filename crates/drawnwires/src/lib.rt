@@ -3,10 +3,10 @@
 
 ghost use Rattle.std.specs.Prelude.{◌≡◌, ◌≤◌, ◌-◌, min, max};
 ghost use Rattle.text.specs.Bytes.{same};
-ghost use Rattle.board.specs.Placement.{placementAt};
+ghost use Rattle.board.specs.Placement.{placement_at};
 ghost use Rattle.board.specs.Accepted.{BoardInRange, NetInRange};
-ghost use Rattle.drc.specs.Covers.{isOnBoard};
-ghost use Rattle.drawnwires.specs.DrawnPlaces.{onlyPlace, wireText, OnBoard, DrawnIn};
+ghost use Rattle.drc.specs.Covers.{is_on_board};
+ghost use Rattle.drawnwires.specs.DrawnPlaces.{only_place, wire_text, OnBoard, DrawnIn};
 
 use board::{Board, Net, Row, Shape, Track};
 use layoutforms::rows::ColumnRows;
@@ -57,7 +57,7 @@ fn minus(a: usize, b: usize) -> usize
 
 // The one placement of a net that points with these rows in the wire column can draw.
 fn only_place(net: Net, rows: ColumnRows) -> OnlyPlace
-    ensures { result ≡ onlyPlace net rows }
+    ensures { result ≡ only_place net rows }
 {
     if !rows.found {
         return OnlyPlace {
@@ -77,7 +77,7 @@ fn only_place(net: Net, rows: ColumnRows) -> OnlyPlace
 fn is_on_board(board: Board, net: Net, shape: Shape, top: Row) -> bool
     requires board_in_range { BoardInRange board }
     requires net_in_range { NetInRange board net }
-    ensures { result ≡ isOnBoard board (placementAt net shape top.0) }
+    ensures { result ≡ is_on_board board (placement_at net shape top.0) }
 {
     if top.0 < 1 {
         return false;
@@ -116,7 +116,7 @@ fn same_bytes(s: &[u8], t: &[u8]) -> bool
 // Whether a line is that of the wire that draws a placement on a track.
 fn draws(s: &[u8], board: Board, track: Track, net: Net, shape: Shape, top: Row) -> bool
     requires { OnBoard board track net shape top }
-    ensures { result ≡ same s.now (wireText board track net shape top) }
+    ensures { result ≡ same s.now (wire_text board track net shape top) }
 {
     let mut line = [0u8; 128];
     let n = writer::wire_line(&mut line, board, track, net, shape, top);

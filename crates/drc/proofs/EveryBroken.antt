@@ -5,67 +5,67 @@ use mathlib.Core.Logic.{◌↔◌, ⊎_elim}
 use mathlib.Core.Option.{Option, none, some}
 use mathlib.Core.List.{List, [], ◌∷◌, Memᴰ}
 use Rattle.lists.specs.Lists.{EachPair}
-use Rattle.lists.proofs.Cases.{by-test}
+use Rattle.lists.proofs.Cases.{by_test}
 use Rattle.board.specs.Job.{Job}
 use Rattle.board.specs.Accepted.{AcceptedJob}
 use Rattle.layout.specs.Tree.{Line}
-use Rattle.drc.specs.Standing.{lines_read, Above, beforeLayout, inLayout, behindLayout, withLine}
-use Rattle.drc.specs.Breach.{BreachFrom, at-line, further-down, out-of-place, ill-formed, stops-early, Breach}
-use Rattle.drc.specs.Judge.{isInPlace, keepsRules}
-use Rattle.drc.specs.BrokenLines.{brokenEnd, brokenFrom, brokenLines}
-use Rattle.drc.proofs.InPlace.{can-stand-of, in_place_of, not-in-place}
-use Rattle.drc.proofs.LineRules.{fails-line, passes_line}
-use Rattle.drc.proofs.EarlyEnd.{early-before, early-in}
+use Rattle.drc.specs.Standing.{lines_read, Above, before_layout, in_layout, behind_layout, with_line}
+use Rattle.drc.specs.Breach.{BreachFrom, at_line, further_down, out_of_place, ill_formed, stops_early, Breach}
+use Rattle.drc.specs.Judge.{is_in_place, keeps_rules}
+use Rattle.drc.specs.BrokenLines.{broken_end, broken_from, broken_lines}
+use Rattle.drc.proofs.InPlace.{can_stand_of, in_place_of, not_in_place}
+use Rattle.drc.proofs.LineRules.{fails_line, passes_line}
+use Rattle.drc.proofs.EarlyEnd.{early_before, early_in}
 
 one_line : {l n : ℕ} → Memᴰ l (n ∷ []) → l ≡ n
 one_line m = ⊎_elim (λ e. e) (λ r. absurd (mathlib.Core.List.Memᴰ.not-nil r)) (mathlib.Core.List.Memᴰ.cases_cons m)
 
 -- ---- at the end of the text
 
-end-listed : (n : ℕ) (a : Above) → (a ≡ behindLayout → ⊥) → Memᴰ n (brokenEnd n a)
-unfolding brokenEnd
-end-listed n beforeLayout f = mathlib.Core.List.Memᴰ.head refl
-end-listed n (inLayout t earlier ws ns) f = mathlib.Core.List.Memᴰ.head refl
-end-listed n behindLayout f = absurd (f refl)
+end_listed : (n : ℕ) (a : Above) → (a ≡ behind_layout → ⊥) → Memᴰ n (broken_end n a)
+unfolding broken_end
+end_listed n before_layout f = mathlib.Core.List.Memᴰ.head refl
+end_listed n (in_layout t earlier ws ns) f = mathlib.Core.List.Memᴰ.head refl
+end_listed n behind_layout f = absurd (f refl)
 
-listed-end : (job : Job) (n l : ℕ) (a : Above) → Memᴰ l (brokenEnd n a) → BreachFrom job n a [] l
-unfolding brokenEnd
-listed-end job n l beforeLayout m = rw (one_line m) (early-before job n)
-listed-end job n l (inLayout t earlier ws ns) m = rw (one_line m) (early-in job n t earlier ws ns)
-listed-end job n l behindLayout m = absurd (mathlib.Core.List.Memᴰ.not-nil m)
+listed_end : (job : Job) (n l : ℕ) (a : Above) → Memᴰ l (broken_end n a) → BreachFrom job n a [] l
+unfolding broken_end
+listed_end job n l before_layout m = rw (one_line m) (early_before job n)
+listed_end job n l (in_layout t earlier ws ns) m = rw (one_line m) (early_in job n t earlier ws ns)
+listed_end job n l behind_layout m = absurd (mathlib.Core.List.Memᴰ.not-nil m)
 
 -- ---- at a line
 
 module _ (job : Job) (rise : EachPair (λ a b. a.number < b.number) job.nets) where
-  from-listed : {n l : ℕ} {a : Above} {ls : List (Option Line)} → BreachFrom job n a ls l → Memᴰ l (brokenFrom job n a ls)
-  unfolding brokenFrom
-  from-listed (at-line {a = a} {x = x} {ls = ls} b) =
-      by-test (isInPlace job a x)
-      (λ s. rw s (by-test (keepsRules job a x ls) (λ k. absurd (passes_line job rise s k b)) (λ k. rw k (mathlib.Core.List.Memᴰ.head refl))))
+  from_listed : {n l : ℕ} {a : Above} {ls : List (Option Line)} → BreachFrom job n a ls l → Memᴰ l (broken_from job n a ls)
+  unfolding broken_from
+  from_listed (at_line {a = a} {x = x} {ls = ls} b) =
+      by_test (is_in_place job a x)
+      (λ s. rw s (by_test (keeps_rules job a x ls) (λ k. absurd (passes_line job rise s k b)) (λ k. rw k (mathlib.Core.List.Memᴰ.head refl))))
       (λ s. rw s (mathlib.Core.List.Memᴰ.head refl))
-  from-listed (further-down {a = a} {x = x} {ls = ls} c b) =
-      let m = from-listed b in
-      rw (in_place_of job c) (by-test (keepsRules job a x ls) (λ k. rw k m) (λ k. rw k (mathlib.Core.List.Memᴰ.tail m)))
-  from-listed (out-of-place {a = a} {x = x} f) =
-      by-test (isInPlace job a x) (λ s. absurd (f (can-stand-of job a x s))) (λ s. rw s (mathlib.Core.List.Memᴰ.head refl))
-  from-listed ill-formed = mathlib.Core.List.Memᴰ.head refl
-  from-listed (stops-early {n = n} {a = a} f) = end-listed n a f
+  from_listed (further_down {a = a} {x = x} {ls = ls} c b) =
+      let m = from_listed b in
+      rw (in_place_of job c) (by_test (keeps_rules job a x ls) (λ k. rw k m) (λ k. rw k (mathlib.Core.List.Memᴰ.tail m)))
+  from_listed (out_of_place {a = a} {x = x} f) =
+      by_test (is_in_place job a x) (λ s. absurd (f (can_stand_of job a x s))) (λ s. rw s (mathlib.Core.List.Memᴰ.head refl))
+  from_listed ill_formed = mathlib.Core.List.Memᴰ.head refl
+  from_listed (stops_early {n = n} {a = a} f) = end_listed n a f
 
-  listed-from : (n l : ℕ) (a : Above) (ls : List (Option Line)) → Memᴰ l (brokenFrom job n a ls) → BreachFrom job n a ls l
-  unfolding brokenFrom
-  listed-from n l a [] m = listed-end job n l a m
-  listed-from n l a (none ∷ ls) m = rw (one_line m) ill-formed
-  listed-from n l a (some x ∷ ls) m =
-      by-test (isInPlace job a x)
+  listed_from : (n l : ℕ) (a : Above) (ls : List (Option Line)) → Memᴰ l (broken_from job n a ls) → BreachFrom job n a ls l
+  unfolding broken_from
+  listed_from n l a [] m = listed_end job n l a m
+  listed_from n l a (none ∷ ls) m = rw (one_line m) ill_formed
+  listed_from n l a (some x ∷ ls) m =
+      by_test (is_in_place job a x)
       (λ s.
-      let below : Memᴰ l (brokenFrom job (suc n) (withLine a x) ls) → BreachFrom job n a (some x ∷ ls) l =
-      λ i. further-down (can-stand-of job a x s) (listed-from (suc n) l (withLine a x) ls i) in
-      by-test (keepsRules job a x ls)
+      let below : Memᴰ l (broken_from job (suc n) (with_line a x) ls) → BreachFrom job n a (some x ∷ ls) l =
+      λ i. further_down (can_stand_of job a x s) (listed_from (suc n) l (with_line a x) ls i) in
+      by_test (keeps_rules job a x ls)
       (λ k. below (rw (s, k) at m))
-      (λ k. ⊎_elim (λ e. rw e (at-line (fails-line job rise a x ls s k))) below (mathlib.Core.List.Memᴰ.cases_cons (rw (s, k) at m))))
-      (λ s. rw (one_line (rw s at m)) (out-of-place (not-in-place job a x s)))
+      (λ k. ⊎_elim (λ e. rw e (at_line (fails_line job rise a x ls s k))) below (mathlib.Core.List.Memᴰ.cases_cons (rw (s, k) at m))))
+      (λ s. rw (one_line (rw s at m)) (out_of_place (not_in_place job a x s)))
 
 -- a line is listed exactly if it is broken
-pub every-broken : (job : Job) (a : AcceptedJob job) (text : List ℕ) (l : ℕ) → Memᴰ l (brokenLines job text) ↔ Breach job text l
-unfolding brokenLines
-every-broken job a text l = (listed-from job a.numbers-rise 1 l beforeLayout (lines_read text), from-listed job a.numbers-rise)
+pub every_broken : (job : Job) (a : AcceptedJob job) (text : List ℕ) (l : ℕ) → Memᴰ l (broken_lines job text) ↔ Breach job text l
+unfolding broken_lines
+every_broken job a text l = (listed_from job a.numbers_rise 1 l before_layout (lines_read text), from_listed job a.numbers_rise)

@@ -6,111 +6,111 @@ use mathlib.Core.Option.{Option, none, some}
 use mathlib.Core.List.{List, [], ◌∷◌}
 use native.Mathlib.Omega.{arith}
 use Rattle.lists.specs.Lists.{EachPair}
-use Rattle.lists.proofs.Cases.{by-test, and_split}
+use Rattle.lists.proofs.Cases.{by_test, and_split}
 use Rattle.board.specs.Job.{Job}
 use Rattle.board.specs.Accepted.{AcceptedJob}
 use Rattle.layout.specs.Tree.{Line}
-use Rattle.drc.specs.Standing.{lines_read, Above, beforeLayout, inLayout, behindLayout, withLine}
-use Rattle.drc.specs.Breach.{BreachFrom, at-line, further-down, out-of-place, ill-formed, stops-early, Breach}
-use Rattle.drc.specs.Judge.{isInPlace, keepsRules, sound-text, broken-at, atTextEnd, judgeFrom, judge}
-use Rattle.drc.proofs.InPlace.{can-stand-of, not-in-place}
-use Rattle.drc.proofs.LineRules.{fails-line, passes_line}
-use Rattle.drc.proofs.EarlyEnd.{early-before, early-in}
+use Rattle.drc.specs.Standing.{lines_read, Above, before_layout, in_layout, behind_layout, with_line}
+use Rattle.drc.specs.Breach.{BreachFrom, at_line, further_down, out_of_place, ill_formed, stops_early, Breach}
+use Rattle.drc.specs.Judge.{is_in_place, keeps_rules, sound_text, broken_at, at_text_end, judge_from, judge}
+use Rattle.drc.proofs.InPlace.{can_stand_of, not_in_place}
+use Rattle.drc.proofs.LineRules.{fails_line, passes_line}
+use Rattle.drc.proofs.EarlyEnd.{early_before, early_in}
 
 -- a broken line stands at or below the first of the lines
-breach-from : {job : Job} {n : ℕ} {a : Above} {ls : List (Option Line)} {l : ℕ} → BreachFrom job n a ls l → n ≤ l
-breach-from (at-line b) = omega arith
-breach-from (further-down {l = l} s b) = omega (arith, breach-from b)
-breach-from (out-of-place f) = omega arith
-breach-from ill-formed = omega arith
-breach-from (stops-early f) = omega arith
+breach_from : {job : Job} {n : ℕ} {a : Above} {ls : List (Option Line)} {l : ℕ} → BreachFrom job n a ls l → n ≤ l
+breach_from (at_line b) = omega arith
+breach_from (further_down {l = l} s b) = omega (arith, breach_from b)
+breach_from (out_of_place f) = omega arith
+breach_from ill_formed = omega arith
+breach_from (stops_early f) = omega arith
 
-same_line : (n l : ℕ) → broken-at n ≡ broken-at l → n ≡ l
+same_line : (n l : ℕ) → broken_at n ≡ broken_at l → n ≡ l
 same_line n l e = cc
 
-pub not_sound : (n : ℕ) → broken-at n ≡ sound-text → ⊥
+pub not_sound : (n : ℕ) → broken_at n ≡ sound_text → ⊥
 not_sound n e = let z : ◌≡◌ {A = ℕ} 0 1 = cc in omega arith
 
-not-broken : (l : ℕ) → sound-text ≡ broken-at l → ⊥
-not-broken l e = let z : ◌≡◌ {A = ℕ} 0 1 = cc in omega arith
+not_broken : (l : ℕ) → sound_text ≡ broken_at l → ⊥
+not_broken l e = let z : ◌≡◌ {A = ℕ} 0 1 = cc in omega arith
 
 -- ---- at the end of the text
 
-end-breach : (job : Job) (n : ℕ) (a : Above) (l : ℕ) → atTextEnd n a ≡ broken-at l → BreachFrom job n a [] l
-unfolding atTextEnd
-end-breach job n beforeLayout l h = rw (← same_line n l h) (early-before job n)
-end-breach job n (inLayout t earlier ws ns) l h = rw (← same_line n l h) (early-in job n t earlier ws ns)
-end-breach job n behindLayout l h = absurd (not-broken l h)
+end_breach : (job : Job) (n : ℕ) (a : Above) (l : ℕ) → at_text_end n a ≡ broken_at l → BreachFrom job n a [] l
+unfolding at_text_end
+end_breach job n before_layout l h = rw (← same_line n l h) (early_before job n)
+end_breach job n (in_layout t earlier ws ns) l h = rw (← same_line n l h) (early_in job n t earlier ws ns)
+end_breach job n behind_layout l h = absurd (not_broken l h)
 
-end-first : (n : ℕ) (a : Above) (l : ℕ) → atTextEnd n a ≡ broken-at l → n ≡ l
-unfolding atTextEnd
-end-first n beforeLayout l h = same_line n l h
-end-first n (inLayout t earlier ws ns) l h = same_line n l h
-end-first n behindLayout l h = absurd (not-broken l h)
+end_first : (n : ℕ) (a : Above) (l : ℕ) → at_text_end n a ≡ broken_at l → n ≡ l
+unfolding at_text_end
+end_first n before_layout l h = same_line n l h
+end_first n (in_layout t earlier ws ns) l h = same_line n l h
+end_first n behind_layout l h = absurd (not_broken l h)
 
-end-sound : {job : Job} (n : ℕ) (a : Above) {l : ℕ} → atTextEnd n a ≡ sound-text → BreachFrom job n a [] l → ⊥
-unfolding atTextEnd
-end-sound n beforeLayout h b = not_sound n h
-end-sound n (inLayout t earlier ws ns) h b = not_sound n h
-end-sound n behindLayout h (stops-early f) = f refl
+end_sound : {job : Job} (n : ℕ) (a : Above) {l : ℕ} → at_text_end n a ≡ sound_text → BreachFrom job n a [] l → ⊥
+unfolding at_text_end
+end_sound n before_layout h b = not_sound n h
+end_sound n (in_layout t earlier ws ns) h b = not_sound n h
+end_sound n behind_layout h (stops_early f) = f refl
 
 -- ---- at a line
 
 module _ (job : Job) (rise : EachPair (λ a b. a.number < b.number) job.nets) where
   -- past a line that passes, a broken line is one of the lines below it
-  passed-by : {n : ℕ} {a : Above} {x : Line} {ls : List (Option Line)} {l : ℕ} → BreachFrom job n a (some x ∷ ls) l →
-      isInPlace job a x ≡ true → keepsRules job a x ls ≡ true → BreachFrom job (suc n) (withLine a x) ls l
-  passed-by (at-line b) s k = absurd (passes_line job rise s k b)
-  passed-by (further-down c b) s k = b
-  passed-by (out-of-place {a = a} {x = x} f) s k = absurd (f (can-stand-of job a x s))
+  passed_by : {n : ℕ} {a : Above} {x : Line} {ls : List (Option Line)} {l : ℕ} → BreachFrom job n a (some x ∷ ls) l →
+      is_in_place job a x ≡ true → keeps_rules job a x ls ≡ true → BreachFrom job (suc n) (with_line a x) ls l
+  passed_by (at_line b) s k = absurd (passes_line job rise s k b)
+  passed_by (further_down c b) s k = b
+  passed_by (out_of_place {a = a} {x = x} f) s k = absurd (f (can_stand_of job a x s))
 
-  from-breach : (n : ℕ) (a : Above) (ls : List (Option Line)) (l : ℕ) → judgeFrom job n a ls ≡ broken-at l → BreachFrom job n a ls l
-  unfolding judgeFrom
-  from-breach n a [] l h = end-breach job n a l h
-  from-breach n a (none ∷ ls) l h = rw (← same_line n l h) ill-formed
-  from-breach n a (some x ∷ ls) l h =
-      by-test (isInPlace job a x && keepsRules job a x ls)
-      (λ e. further-down (can-stand-of job a x (and_split (isInPlace job a x) (keepsRules job a x ls) e).0) (from-breach (suc n) (withLine a x) ls l (rw e at h)))
+  from_breach : (n : ℕ) (a : Above) (ls : List (Option Line)) (l : ℕ) → judge_from job n a ls ≡ broken_at l → BreachFrom job n a ls l
+  unfolding judge_from
+  from_breach n a [] l h = end_breach job n a l h
+  from_breach n a (none ∷ ls) l h = rw (← same_line n l h) ill_formed
+  from_breach n a (some x ∷ ls) l h =
+      by_test (is_in_place job a x && keeps_rules job a x ls)
+      (λ e. further_down (can_stand_of job a x (and_split (is_in_place job a x) (keeps_rules job a x ls) e).0) (from_breach (suc n) (with_line a x) ls l (rw e at h)))
       (λ e. rw (← same_line n l (rw e at h))
-      (by-test (isInPlace job a x)
-      (λ s. at-line (fails-line job rise a x ls s (rw s at e)))
-      (λ s. out-of-place (not-in-place job a x s))))
+      (by_test (is_in_place job a x)
+      (λ s. at_line (fails_line job rise a x ls s (rw s at e)))
+      (λ s. out_of_place (not_in_place job a x s))))
 
-  from_first : (n : ℕ) (a : Above) (ls : List (Option Line)) (l m : ℕ) → judgeFrom job n a ls ≡ broken-at l → BreachFrom job n a ls m → l ≤ m
-  unfolding judgeFrom
-  from_first n a [] l m h b = omega (arith, end-first n a l h, breach-from b)
-  from_first n a (none ∷ ls) l m h b = omega (arith, same_line n l h, breach-from b)
+  from_first : (n : ℕ) (a : Above) (ls : List (Option Line)) (l m : ℕ) → judge_from job n a ls ≡ broken_at l → BreachFrom job n a ls m → l ≤ m
+  unfolding judge_from
+  from_first n a [] l m h b = omega (arith, end_first n a l h, breach_from b)
+  from_first n a (none ∷ ls) l m h b = omega (arith, same_line n l h, breach_from b)
   from_first n a (some x ∷ ls) l m h b =
-      by-test (isInPlace job a x && keepsRules job a x ls)
+      by_test (is_in_place job a x && keeps_rules job a x ls)
       (λ e.
-      let s = and_split (isInPlace job a x) (keepsRules job a x ls) e in
-      from_first (suc n) (withLine a x) ls l m (rw e at h) (passed-by b s.0 s.1))
-      (λ e. omega (arith, same_line n l (rw e at h), breach-from b))
+      let s = and_split (is_in_place job a x) (keeps_rules job a x ls) e in
+      from_first (suc n) (with_line a x) ls l m (rw e at h) (passed_by b s.0 s.1))
+      (λ e. omega (arith, same_line n l (rw e at h), breach_from b))
 
-  from-sound : (n : ℕ) (a : Above) (ls : List (Option Line)) (m : ℕ) → judgeFrom job n a ls ≡ sound-text → BreachFrom job n a ls m → ⊥
-  unfolding judgeFrom
-  from-sound n a [] m h b = end-sound n a h b
-  from-sound n a (none ∷ ls) m h b = not_sound n h
-  from-sound n a (some x ∷ ls) m h b =
-      by-test (isInPlace job a x && keepsRules job a x ls)
+  from_sound : (n : ℕ) (a : Above) (ls : List (Option Line)) (m : ℕ) → judge_from job n a ls ≡ sound_text → BreachFrom job n a ls m → ⊥
+  unfolding judge_from
+  from_sound n a [] m h b = end_sound n a h b
+  from_sound n a (none ∷ ls) m h b = not_sound n h
+  from_sound n a (some x ∷ ls) m h b =
+      by_test (is_in_place job a x && keeps_rules job a x ls)
       (λ e.
-      let s = and_split (isInPlace job a x) (keepsRules job a x ls) e in
-      from-sound (suc n) (withLine a x) ls m (rw e at h) (passed-by b s.0 s.1))
+      let s = and_split (is_in_place job a x) (keeps_rules job a x ls) e in
+      from_sound (suc n) (with_line a x) ls m (rw e at h) (passed_by b s.0 s.1))
       (λ e. not_sound n (rw e at h))
 
 -- ---- the theorems
 module _ (job : Job) (a : AcceptedJob job) (text : List ℕ) where
   -- the line that is named is broken
-  pub judge-breach : (l : ℕ) → judge job text ≡ broken-at l → Breach job text l
+  pub judge_breach : (l : ℕ) → judge job text ≡ broken_at l → Breach job text l
   unfolding judge
-  judge-breach l h = from-breach job a.numbers-rise 1 beforeLayout (lines_read text) l h
+  judge_breach l h = from_breach job a.numbers_rise 1 before_layout (lines_read text) l h
 
   -- no line above it is
-  pub judge-first : (l m : ℕ) → judge job text ≡ broken-at l → Breach job text m → l ≤ m
+  pub judge_first : (l m : ℕ) → judge job text ≡ broken_at l → Breach job text m → l ≤ m
   unfolding judge
-  judge-first l m h b = from_first job a.numbers-rise 1 beforeLayout (lines_read text) l m h b
+  judge_first l m h b = from_first job a.numbers_rise 1 before_layout (lines_read text) l m h b
 
   -- a text that is called sound has no broken line
-  pub judge-no-breach : (m : ℕ) → judge job text ≡ sound-text → Breach job text m → ⊥
+  pub judge_no_breach : (m : ℕ) → judge job text ≡ sound_text → Breach job text m → ⊥
   unfolding judge
-  judge-no-breach m h b = from-sound job a.numbers-rise 1 beforeLayout (lines_read text) m h b
+  judge_no_breach m h b = from_sound job a.numbers_rise 1 before_layout (lines_read text) m h b

@@ -8,51 +8,51 @@ use native.Mathlib.Omega.{arith}
 use lib.Dec.{eqb, leb}
 use borrow.Author.Tests.{eqb-true, eq-eqb, le-leb}
 use Rattle.lists.specs.Lists.{all_of}
-use Rattle.lists.proofs.Cases.{by-test, and_split, and_both}
-use Rattle.lists.proofs.Laws.{allOf-at}
+use Rattle.lists.proofs.Cases.{by_test, and_split, and_both}
+use Rattle.lists.proofs.Laws.{all_of_at}
 use Rattle.board.specs.Job.{Job}
-use Rattle.board.specs.Tests.{isOn}
-use Rattle.board.proofs.ExactTests.{listed-on}
+use Rattle.board.specs.Tests.{is_on}
+use Rattle.board.proofs.ExactTests.{listed_on}
 use Rattle.layout.specs.Tree.{Wire, DrawnTrack, Line, opens, track, wire, loose, closes}
-use Rattle.layout.specs.LayoutText.{wiresThen, tracksThen, looseThen}
-use Rattle.sound.specs.Wires.{weightOf, sumOver, wireNumbers, trackNumbers, wiresSum}
-use Rattle.drc.specs.Standing.{Above, beforeLayout, inLayout, behindLayout, withLine, numbersAbove}
-use Rattle.drc.specs.Judge.{noneLoose, endsTrack, isInTurn, isOpening, isInPlace, isTrueSum, keepsRules, sound-text, atTextEnd, judgeFrom}
-use Rattle.drc.proofs.Lines.{ofForm}
-use Rattle.drc.proofs.InPlace.{under-track, next-in-turn}
-use Rattle.drc.proofs.WireRule.{WireKept, wire-kept}
-use Rattle.drc.proofs.LooseRule.{LooseKept, loose-kept}
+use Rattle.layout.specs.LayoutText.{wires_then, tracks_then, loose_then}
+use Rattle.sound.specs.Wires.{weight_of, sum_over, wire_numbers, track_numbers, wires_sum}
+use Rattle.drc.specs.Standing.{Above, before_layout, in_layout, behind_layout, with_line, numbers_above}
+use Rattle.drc.specs.Judge.{none_loose, ends_track, is_in_turn, is_opening, is_in_place, is_true_sum, keeps_rules, sound_text, at_text_end, judge_from}
+use Rattle.drc.proofs.Lines.{of_form}
+use Rattle.drc.proofs.InPlace.{under_track, next_in_turn}
+use Rattle.drc.proofs.WireRule.{WireKept, wire_kept}
+use Rattle.drc.proofs.LooseRule.{LooseKept, loose_kept}
 use Rattle.drc.proofs.FirstBroken.{not_sound}
-use Rattle.drc.proofs.RulesByLine.{endLines, KeptWires, KeptTracks, KeptLoose, NoneMissing, tracks-count}
+use Rattle.drc.proofs.RulesByLine.{end_lines, KeptWires, KeptTracks, KeptLoose, NoneMissing, tracks_count}
 
-pub some-loose : (ns : List ℕ) (j : ℕ) → noneLoose (ns ++ (j ∷ [])) ≡ false
-unfolding noneLoose
-some-loose [] j = refl
-some-loose (n ∷ ns) j = refl
+pub some_loose : (ns : List ℕ) (j : ℕ) → none_loose (ns ++ (j ∷ [])) ≡ false
+unfolding none_loose
+some_loose [] j = refl
+some_loose (n ∷ ns) j = refl
 
 module _ (job : Job) where
   -- ---- a line that the verdict goes past
 
   record PassedLine (n : ℕ) (a : Above) (x : Line) (ls : List (Option Line)) : Type 0 where
-    in_place : isInPlace job a x ≡ true
-    kept : keepsRules job a x ls ≡ true
-    rest : judgeFrom job (suc n) (withLine a x) ls ≡ sound-text
+    in_place : is_in_place job a x ≡ true
+    kept : keeps_rules job a x ls ≡ true
+    rest : judge_from job (suc n) (with_line a x) ls ≡ sound_text
 
-  passed : (n : ℕ) (a : Above) (x : Line) (ls : List (Option Line)) → judgeFrom job n a (some x ∷ ls) ≡ sound-text → PassedLine n a x ls
-  unfolding judgeFrom
+  passed : (n : ℕ) (a : Above) (x : Line) (ls : List (Option Line)) → judge_from job n a (some x ∷ ls) ≡ sound_text → PassedLine n a x ls
+  unfolding judge_from
   passed n a x ls h =
-      by-test (isInPlace job a x && keepsRules job a x ls)
-      (λ e. let s = and_split (isInPlace job a x) (keepsRules job a x ls) e in record { in_place = s.0; kept = s.1; rest = rw e at h })
+      by_test (is_in_place job a x && keeps_rules job a x ls)
+      (λ e. let s = and_split (is_in_place job a x) (keeps_rules job a x ls) e in record { in_place = s.0; kept = s.1; rest = rw e at h })
       (λ e. absurd (not_sound n (rw e at h)))
 
   -- ---- the sum of the wires of a track is its number
 
   sum_is : (t s sum : ℕ) (earlier : List ℕ) (vs : List Wire) (trs : List DrawnTrack) (ks : List ℕ) → KeptTracks job t earlier trs →
-      isTrueSum job t s sum (ofForm (wiresThen vs (tracksThen trs (endLines ks)))) ≡ true → sum + wiresSum job vs ≡ s
-  unfolding isTrueSum endsTrack wiresThen tracksThen looseThen wiresSum sumOver
-  sum_is t s sum earlier (v ∷ vs) trs ks k h = omega (arith, sum_is t s (sum + weightOf job v.number) earlier vs trs ks k h)
+      is_true_sum job t s sum (of_form (wires_then vs (tracks_then trs (end_lines ks)))) ≡ true → sum + wires_sum job vs ≡ s
+  unfolding is_true_sum ends_track wires_then tracks_then loose_then wires_sum sum_over
+  sum_is t s sum earlier (v ∷ vs) trs ks k h = omega (arith, sum_is t s (sum + weight_of job v.number) earlier vs trs ks k h)
   sum_is t s sum earlier [] (tr ∷ trs) ks k h =
-      let count = tracks-count job (suc t) (earlier ++ wireNumbers tr.wires) trs k.3 in
+      let count = tracks_count job (suc t) (earlier ++ wire_numbers tr.wires) trs k.3 in
       let x = and_both (eqb tr.track (suc t)) (leb tr.track job.board.tracks) (eq-eqb tr.track (suc t) k.0)
       (le-leb tr.track job.board.tracks (omega (arith, k.0))) in
       omega (arith, eqb-true sum s (rw x at h))
@@ -65,148 +65,148 @@ module _ (job : Job) where
     vs : List Wire
     trs : List DrawnTrack
     ks : List ℕ
-    lines-below : ls ≡ ofForm (wiresThen vs (tracksThen trs (endLines ks)))
+    lines_below : ls ≡ of_form (wires_then vs (tracks_then trs (end_lines ks)))
     wires : KeptWires job t earlier ws vs
-    tracks : KeptTracks job t (earlier ++ wireNumbers (ws ++ vs)) trs
-    looses : KeptLoose job ((earlier ++ wireNumbers (ws ++ vs)) ++ trackNumbers trs) ns ks
-    none-missing : NoneMissing job (((earlier ++ wireNumbers (ws ++ vs)) ++ trackNumbers trs) ++ (ns ++ ks))
+    tracks : KeptTracks job t (earlier ++ wire_numbers (ws ++ vs)) trs
+    looses : KeptLoose job ((earlier ++ wire_numbers (ws ++ vs)) ++ track_numbers trs) ns ks
+    none_missing : NoneMissing job (((earlier ++ wire_numbers (ws ++ vs)) ++ track_numbers trs) ++ (ns ++ ks))
     -- behind a loose line come loose lines only
-    behind-loose : noneLoose ns ≡ false → (vs ≡ []) × (trs ≡ [])
+    behind_loose : none_loose ns ≡ false → (vs ≡ []) × (trs ≡ [])
     -- no wire stands before track 1
-    before-tracks : t ≡ 0 → vs ≡ []
+    before_tracks : t ≡ 0 → vs ≡ []
 
-  closes-last : (t : ℕ) (earlier : List ℕ) (ws : List Wire) (ns : List ℕ) (ls : List (Option Line)) → ls ≡ [] → t ≡ job.board.tracks →
-      all_of (isOn (numbersAbove earlier ws ns)) job.nets ≡ true → Remaining t earlier ws ns (some closes ∷ ls)
-  unfolding looseThen wiresThen tracksThen trackNumbers
-  closes-last t earlier ws ns ls e k c =
+  closes_last : (t : ℕ) (earlier : List ℕ) (ws : List Wire) (ns : List ℕ) (ls : List (Option Line)) → ls ≡ [] → t ≡ job.board.tracks →
+      all_of (is_on (numbers_above earlier ws ns)) job.nets ≡ true → Remaining t earlier ws ns (some closes ∷ ls)
+  unfolding loose_then wires_then tracks_then track_numbers
+  closes_last t earlier ws ns ls e k c =
       record {
         vs = [];
         trs = [];
         ks = [];
-        lines-below = ap (λ (l : List (Option Line)). some closes ∷ l) e;
+        lines_below = ap (λ (l : List (Option Line)). some closes ∷ l) e;
         wires = tt;
         tracks = k;
         looses = tt;
-        none-missing = λ n i.
-            rw (append-nil ws, append-nil (earlier ++ wireNumbers ws), append-nil ns)
-            (listed-on (numbersAbove earlier ws ns) n (allOf-at (isOn (numbersAbove earlier ws ns)) job.nets n c i));
-        behind-loose = λ _. (refl, refl);
-        before-tracks = λ _. refl;
+        none_missing = λ n i.
+            rw (append-nil ws, append-nil (earlier ++ wire_numbers ws), append-nil ns)
+            (listed_on (numbers_above earlier ws ns) n (all_of_at (is_on (numbers_above earlier ws ns)) job.nets n c i));
+        behind_loose = λ _. (refl, refl);
+        before_tracks = λ _. refl;
       }
 
-  loose-above : (t : ℕ) (earlier : List ℕ) (ws : List Wire) (ns : List ℕ) (j : ℕ) (ls : List (Option Line)) →
-      LooseKept job (earlier ++ wireNumbers ws) ns j → Remaining t earlier ws (ns ++ (j ∷ [])) ls → Remaining t earlier ws ns (some (loose j) ∷ ls)
-  unfolding looseThen wiresThen tracksThen trackNumbers
-  loose-above t earlier ws ns j ls k r =
-      let e = r.behind-loose (some-loose ns j) in
-      let on : (earlier ++ wireNumbers (ws ++ r.vs)) ++ trackNumbers r.trs ≡ earlier ++ wireNumbers ws =
-      rw (e.0, e.1, append-nil ws, append-nil (earlier ++ wireNumbers ws)) in
-      let after : ls ≡ ofForm (endLines r.ks) = rw (e.0, e.1) at r.lines-below in
+  loose_above : (t : ℕ) (earlier : List ℕ) (ws : List Wire) (ns : List ℕ) (j : ℕ) (ls : List (Option Line)) →
+      LooseKept job (earlier ++ wire_numbers ws) ns j → Remaining t earlier ws (ns ++ (j ∷ [])) ls → Remaining t earlier ws ns (some (loose j) ∷ ls)
+  unfolding loose_then wires_then tracks_then track_numbers
+  loose_above t earlier ws ns j ls k r =
+      let e = r.behind_loose (some_loose ns j) in
+      let on : (earlier ++ wire_numbers (ws ++ r.vs)) ++ track_numbers r.trs ≡ earlier ++ wire_numbers ws =
+      rw (e.0, e.1, append-nil ws, append-nil (earlier ++ wire_numbers ws)) in
+      let after : ls ≡ of_form (end_lines r.ks) = rw (e.0, e.1) at r.lines_below in
       record {
         vs = r.vs;
         trs = r.trs;
         ks = j ∷ r.ks;
-        lines-below = rw (e.0, e.1) (ap (λ (l : List (Option Line)). some (loose j) ∷ l) after);
+        lines_below = rw (e.0, e.1) (ap (λ (l : List (Option Line)). some (loose j) ∷ l) after);
         wires = r.wires;
         tracks = r.tracks;
         looses = (rw on k, r.looses);
-        none-missing = λ n i. rw (append_assoc ns (j ∷ []) r.ks) at (r.none-missing n i);
-        behind-loose = λ _. e;
-        before-tracks = λ _. e.0;
+        none_missing = λ n i. rw (append_assoc ns (j ∷ []) r.ks) at (r.none_missing n i);
+        behind_loose = λ _. e;
+        before_tracks = λ _. e.0;
       }
 
-  wire-above : (t : ℕ) (earlier : List ℕ) (ws : List Wire) (w : Wire) (ls : List (Option Line)) → 1 ≤ t →
+  wire_above : (t : ℕ) (earlier : List ℕ) (ws : List Wire) (w : Wire) (ls : List (Option Line)) → 1 ≤ t →
       WireKept job t earlier ws w → Remaining t earlier (ws ++ (w ∷ [])) [] ls → Remaining t earlier ws [] (some (wire w) ∷ ls)
-  unfolding wiresThen noneLoose
-  wire-above t earlier ws w ls o k r =
+  unfolding wires_then none_loose
+  wire_above t earlier ws w ls o k r =
       let e = append_assoc ws (w ∷ []) r.vs in
       record {
         vs = w ∷ r.vs;
         trs = r.trs;
         ks = r.ks;
-        lines-below = ap (λ (l : List (Option Line)). some (wire w) ∷ l) r.lines-below;
+        lines_below = ap (λ (l : List (Option Line)). some (wire w) ∷ l) r.lines_below;
         wires = (k, r.wires);
         tracks = rw e at r.tracks;
         looses = rw e at r.looses;
-        none-missing = λ n i. rw e at (r.none-missing n i);
-        behind-loose = λ z. absurd (true≢false z);
-        before-tracks = λ (z : t ≡ 0). absurd (omega arith);
+        none_missing = λ n i. rw e at (r.none_missing n i);
+        behind_loose = λ z. absurd (true≢false z);
+        before_tracks = λ (z : t ≡ 0). absurd (omega arith);
       }
 
-  track-above : (t : ℕ) (earlier : List ℕ) (ws : List Wire) (s : ℕ) (ls : List (Option Line)) → isTrueSum job (suc t) s 0 ls ≡ true →
-      Remaining (suc t) (earlier ++ wireNumbers ws) [] [] ls → Remaining t earlier ws [] (some (track (suc t) s) ∷ ls)
-  unfolding wiresThen tracksThen trackNumbers noneLoose
-  track-above t earlier ws s ls k r =
-      let on = earlier ++ wireNumbers ws in
-      let e = append_assoc on (wireNumbers r.vs) (trackNumbers r.trs) in
-      let sum = sum_is (suc t) s 0 (on ++ wireNumbers r.vs) r.vs r.trs r.ks r.tracks (rw r.lines-below at k) in
+  track_above : (t : ℕ) (earlier : List ℕ) (ws : List Wire) (s : ℕ) (ls : List (Option Line)) → is_true_sum job (suc t) s 0 ls ≡ true →
+      Remaining (suc t) (earlier ++ wire_numbers ws) [] [] ls → Remaining t earlier ws [] (some (track (suc t) s) ∷ ls)
+  unfolding wires_then tracks_then track_numbers none_loose
+  track_above t earlier ws s ls k r =
+      let on = earlier ++ wire_numbers ws in
+      let e = append_assoc on (wire_numbers r.vs) (track_numbers r.trs) in
+      let sum = sum_is (suc t) s 0 (on ++ wire_numbers r.vs) r.vs r.trs r.ks r.tracks (rw r.lines_below at k) in
       record {
         vs = [];
         trs = record { track = suc t; sum = s; wires = r.vs } ∷ r.trs;
         ks = r.ks;
-        lines-below = ap (λ (l : List (Option Line)). some (track (suc t) s) ∷ l) r.lines-below;
+        lines_below = ap (λ (l : List (Option Line)). some (track (suc t) s) ∷ l) r.lines_below;
         wires = tt;
         tracks = rw (append-nil ws) (refl, omega (arith, sum), r.wires, r.tracks);
         looses = rw (append-nil ws, ← e) r.looses;
-        none-missing = λ n i. rw (append-nil ws, ← e) (r.none-missing n i);
-        behind-loose = λ z. absurd (true≢false z);
-        before-tracks = λ _. refl;
+        none_missing = λ n i. rw (append-nil ws, ← e) (r.none_missing n i);
+        behind_loose = λ z. absurd (true≢false z);
+        before_tracks = λ _. refl;
       }
 
   -- ---- one line after another
 
   abbrev SoundFrom : ℕ → ℕ → List ℕ → List Wire → List ℕ → List (Option Line) → Type 0
-  SoundFrom n t earlier ws ns ls = judgeFrom job n (inLayout t earlier ws ns) ls ≡ sound-text
+  SoundFrom n t earlier ws ns ls = judge_from job n (in_layout t earlier ws ns) ls ≡ sound_text
 
-  track-case : (n t : ℕ) (earlier : List ℕ) (ws : List Wire) (ns : List ℕ) (u s : ℕ) (ls : List (Option Line)) → SoundFrom n t earlier ws ns (some (track u s) ∷ ls) →
-      (SoundFrom (suc n) u (earlier ++ wireNumbers ws) [] ns ls → Remaining u (earlier ++ wireNumbers ws) [] ns ls) → Remaining t earlier ws ns (some (track u s) ∷ ls)
-  unfolding keepsRules withLine
-  track-case n t earlier ws ns u s ls h f =
-      let x = passed n (inLayout t earlier ws ns) (track u s) ls h in
-      let c = next-in-turn job t earlier ws ns u s x.in_place in
-      rw (c.in-turn, c.none-loose) (track-above t earlier ws s ls (rw c.in-turn at x.kept) (rw (c.in-turn, c.none-loose) at (f x.rest)))
+  track_case : (n t : ℕ) (earlier : List ℕ) (ws : List Wire) (ns : List ℕ) (u s : ℕ) (ls : List (Option Line)) → SoundFrom n t earlier ws ns (some (track u s) ∷ ls) →
+      (SoundFrom (suc n) u (earlier ++ wire_numbers ws) [] ns ls → Remaining u (earlier ++ wire_numbers ws) [] ns ls) → Remaining t earlier ws ns (some (track u s) ∷ ls)
+  unfolding keeps_rules with_line
+  track_case n t earlier ws ns u s ls h f =
+      let x = passed n (in_layout t earlier ws ns) (track u s) ls h in
+      let c = next_in_turn job t earlier ws ns u s x.in_place in
+      rw (c.in_turn, c.loose_none) (track_above t earlier ws s ls (rw c.in_turn at x.kept) (rw (c.in_turn, c.loose_none) at (f x.rest)))
 
-  wire-case : (n t : ℕ) (earlier : List ℕ) (ws : List Wire) (ns : List ℕ) (w : Wire) (ls : List (Option Line)) → SoundFrom n t earlier ws ns (some (wire w) ∷ ls) →
+  wire_case : (n t : ℕ) (earlier : List ℕ) (ws : List Wire) (ns : List ℕ) (w : Wire) (ls : List (Option Line)) → SoundFrom n t earlier ws ns (some (wire w) ∷ ls) →
       (SoundFrom (suc n) t earlier (ws ++ (w ∷ [])) ns ls → Remaining t earlier (ws ++ (w ∷ [])) ns ls) → Remaining t earlier ws ns (some (wire w) ∷ ls)
-  unfolding keepsRules withLine
-  wire-case n t earlier ws ns w ls h f =
-      let x = passed n (inLayout t earlier ws ns) (wire w) ls h in
-      let c = under-track job t earlier ws ns w x.in_place in
-      rw c.none-loose (wire-above t earlier ws w ls c.from-track (wire-kept job t earlier ws w x.kept) (rw c.none-loose at (f x.rest)))
+  unfolding keeps_rules with_line
+  wire_case n t earlier ws ns w ls h f =
+      let x = passed n (in_layout t earlier ws ns) (wire w) ls h in
+      let c = under_track job t earlier ws ns w x.in_place in
+      rw c.loose_none (wire_above t earlier ws w ls c.from_track (wire_kept job t earlier ws w x.kept) (rw c.loose_none at (f x.rest)))
 
-  loose-case : (n t : ℕ) (earlier : List ℕ) (ws : List Wire) (ns : List ℕ) (j : ℕ) (ls : List (Option Line)) → SoundFrom n t earlier ws ns (some (loose j) ∷ ls) →
+  loose_case : (n t : ℕ) (earlier : List ℕ) (ws : List Wire) (ns : List ℕ) (j : ℕ) (ls : List (Option Line)) → SoundFrom n t earlier ws ns (some (loose j) ∷ ls) →
       (SoundFrom (suc n) t earlier ws (ns ++ (j ∷ [])) ls → Remaining t earlier ws (ns ++ (j ∷ [])) ls) → Remaining t earlier ws ns (some (loose j) ∷ ls)
-  unfolding keepsRules withLine
-  loose-case n t earlier ws ns j ls h f =
-      let x = passed n (inLayout t earlier ws ns) (loose j) ls h in
-      loose-above t earlier ws ns j ls (loose-kept job (earlier ++ wireNumbers ws) ns j x.kept) (f x.rest)
+  unfolding keeps_rules with_line
+  loose_case n t earlier ws ns j ls h f =
+      let x = passed n (in_layout t earlier ws ns) (loose j) ls h in
+      loose_above t earlier ws ns j ls (loose_kept job (earlier ++ wire_numbers ws) ns j x.kept) (f x.rest)
 
   -- nothing stands behind the closing line
-  behind-end : (n : ℕ) (ls : List (Option Line)) → judgeFrom job n behindLayout ls ≡ sound-text → ls ≡ []
-  unfolding judgeFrom isInPlace
-  behind-end n [] h = refl
-  behind-end n (none ∷ ls) h = absurd (not_sound n h)
-  behind-end n (some x ∷ ls) h = absurd (not_sound n h)
+  behind_end : (n : ℕ) (ls : List (Option Line)) → judge_from job n behind_layout ls ≡ sound_text → ls ≡ []
+  unfolding judge_from is_in_place
+  behind_end n [] h = refl
+  behind_end n (none ∷ ls) h = absurd (not_sound n h)
+  behind_end n (some x ∷ ls) h = absurd (not_sound n h)
 
-  closes-case : (n t : ℕ) (earlier : List ℕ) (ws : List Wire) (ns : List ℕ) (ls : List (Option Line)) → SoundFrom n t earlier ws ns (some closes ∷ ls) → Remaining t earlier ws ns (some closes ∷ ls)
-  unfolding isInPlace isInTurn endsTrack keepsRules withLine
-  closes-case n t earlier ws ns ls h =
-      let x = passed n (inLayout t earlier ws ns) closes ls h in
-      closes-last t earlier ws ns ls (behind-end (suc n) ls x.rest) (eqb-true t job.board.tracks x.in_place) x.kept
+  closes_case : (n t : ℕ) (earlier : List ℕ) (ws : List Wire) (ns : List ℕ) (ls : List (Option Line)) → SoundFrom n t earlier ws ns (some closes ∷ ls) → Remaining t earlier ws ns (some closes ∷ ls)
+  unfolding is_in_place is_in_turn ends_track keeps_rules with_line
+  closes_case n t earlier ws ns ls h =
+      let x = passed n (in_layout t earlier ws ns) closes ls h in
+      closes_last t earlier ws ns ls (behind_end (suc n) ls x.rest) (eqb-true t job.board.tracks x.in_place) x.kept
 
-  opens-case : (n t : ℕ) (earlier : List ℕ) (ws : List Wire) (ns : List ℕ) (ls : List (Option Line)) → SoundFrom n t earlier ws ns (some opens ∷ ls) → ⊥
-  unfolding isInPlace isInTurn
-  opens-case n t earlier ws ns ls h = false≢true (passed n (inLayout t earlier ws ns) opens ls h).in_place
+  opens_case : (n t : ℕ) (earlier : List ℕ) (ws : List Wire) (ns : List ℕ) (ls : List (Option Line)) → SoundFrom n t earlier ws ns (some opens ∷ ls) → ⊥
+  unfolding is_in_place is_in_turn
+  opens_case n t earlier ws ns ls h = false≢true (passed n (in_layout t earlier ws ns) opens ls h).in_place
 
   remaining : (n t : ℕ) (earlier : List ℕ) (ws : List Wire) (ns : List ℕ) (ls : List (Option Line)) → SoundFrom n t earlier ws ns ls → Remaining t earlier ws ns ls
-  unfolding judgeFrom atTextEnd
+  unfolding judge_from at_text_end
   remaining n t earlier ws ns [] h = absurd (not_sound n h)
   remaining n t earlier ws ns (none ∷ ls) h = absurd (not_sound n h)
-  remaining n t earlier ws ns (some opens ∷ ls) h = absurd (opens-case n t earlier ws ns ls h)
-  remaining n t earlier ws ns (some (track u s) ∷ ls) h = track-case n t earlier ws ns u s ls h (remaining (suc n) u (earlier ++ wireNumbers ws) [] ns ls)
-  remaining n t earlier ws ns (some (wire w) ∷ ls) h = wire-case n t earlier ws ns w ls h (remaining (suc n) t earlier (ws ++ (w ∷ [])) ns ls)
-  remaining n t earlier ws ns (some (loose j) ∷ ls) h = loose-case n t earlier ws ns j ls h (remaining (suc n) t earlier ws (ns ++ (j ∷ [])) ls)
-  remaining n t earlier ws ns (some closes ∷ ls) h = closes-case n t earlier ws ns ls h
+  remaining n t earlier ws ns (some opens ∷ ls) h = absurd (opens_case n t earlier ws ns ls h)
+  remaining n t earlier ws ns (some (track u s) ∷ ls) h = track_case n t earlier ws ns u s ls h (remaining (suc n) u (earlier ++ wire_numbers ws) [] ns ls)
+  remaining n t earlier ws ns (some (wire w) ∷ ls) h = wire_case n t earlier ws ns w ls h (remaining (suc n) t earlier (ws ++ (w ∷ [])) ns ls)
+  remaining n t earlier ws ns (some (loose j) ∷ ls) h = loose_case n t earlier ws ns j ls h (remaining (suc n) t earlier ws (ns ++ (j ∷ [])) ls)
+  remaining n t earlier ws ns (some closes ∷ ls) h = closes_case n t earlier ws ns ls h
 
   -- ---- the whole tree
 
@@ -214,30 +214,30 @@ module _ (job : Job) where
   pub record KeptTree (ls : List (Option Line)) : Type 0 where
     pub trs : List DrawnTrack
     pub ks : List ℕ
-    pub lines_are : ls ≡ ofForm (opens ∷ tracksThen trs (endLines ks))
+    pub lines_are : ls ≡ of_form (opens ∷ tracks_then trs (end_lines ks))
     pub tracks : KeptTracks job 0 [] trs
-    pub looses : KeptLoose job (trackNumbers trs) [] ks
-    pub none-missing : NoneMissing job (trackNumbers trs ++ ks)
+    pub looses : KeptLoose job (track_numbers trs) [] ks
+    pub none_missing : NoneMissing job (track_numbers trs ++ ks)
 
-  behind-opening : (ls : List (Option Line)) → Remaining 0 [] [] [] ls → KeptTree (some opens ∷ ls)
-  unfolding wiresThen
-  behind-opening ls r =
-      let e = r.before-tracks refl in
+  behind_opening : (ls : List (Option Line)) → Remaining 0 [] [] [] ls → KeptTree (some opens ∷ ls)
+  unfolding wires_then
+  behind_opening ls r =
+      let e = r.before_tracks refl in
       record {
         trs = r.trs;
         ks = r.ks;
-        lines_are = ap (λ (l : List (Option Line)). some opens ∷ l) (rw e at r.lines-below);
+        lines_are = ap (λ (l : List (Option Line)). some opens ∷ l) (rw e at r.lines_below);
         tracks = rw e at r.tracks;
         looses = rw e at r.looses;
-        none-missing = λ n i. rw e at (r.none-missing n i);
+        none_missing = λ n i. rw e at (r.none_missing n i);
       }
 
-  pub sound-tree : (ls : List (Option Line)) → judgeFrom job 1 beforeLayout ls ≡ sound-text → KeptTree ls
-  unfolding judgeFrom atTextEnd isInPlace isOpening keepsRules withLine
-  sound-tree [] h = absurd (not_sound 1 h)
-  sound-tree (none ∷ ls) h = absurd (not_sound 1 h)
-  sound-tree (some (track u s) ∷ ls) h = absurd (not_sound 1 h)
-  sound-tree (some (wire w) ∷ ls) h = absurd (not_sound 1 h)
-  sound-tree (some (loose j) ∷ ls) h = absurd (not_sound 1 h)
-  sound-tree (some closes ∷ ls) h = absurd (not_sound 1 h)
-  sound-tree (some opens ∷ ls) h = behind-opening ls (remaining 2 0 [] [] [] ls h)
+  pub sound_tree : (ls : List (Option Line)) → judge_from job 1 before_layout ls ≡ sound_text → KeptTree ls
+  unfolding judge_from at_text_end is_in_place is_opening keeps_rules with_line
+  sound_tree [] h = absurd (not_sound 1 h)
+  sound_tree (none ∷ ls) h = absurd (not_sound 1 h)
+  sound_tree (some (track u s) ∷ ls) h = absurd (not_sound 1 h)
+  sound_tree (some (wire w) ∷ ls) h = absurd (not_sound 1 h)
+  sound_tree (some (loose j) ∷ ls) h = absurd (not_sound 1 h)
+  sound_tree (some closes ∷ ls) h = absurd (not_sound 1 h)
+  sound_tree (some opens ∷ ls) h = behind_opening ls (remaining 2 0 [] [] [] ls h)

@@ -11,40 +11,40 @@ use Rattle.lists.proofs.Joins.{Each-join, EachPair-map}
 use Rattle.board.specs.Job.{Job}
 use Rattle.board.specs.Placement.{Placement, bottom}
 use Rattle.layout.specs.Tree.{Wire, DrawnTrack, Layout, opens}
-use Rattle.layout.specs.LayoutText.{tracksThen, layoutLines, layoutText}
-use Rattle.layout.specs.Drawing.{wireOf}
-use Rattle.sound.specs.Wires.{wireNumbers, trackNumbers, lineNumbers}
+use Rattle.layout.specs.LayoutText.{tracks_then, layout_lines, layout_text}
+use Rattle.layout.specs.Drawing.{wire_of}
+use Rattle.sound.specs.Wires.{wire_numbers, track_numbers, line_numbers}
 use Rattle.sound.specs.Sound.{SoundPlacement, SoundTracks, Sound}
 use Rattle.drc.specs.Standing.{lines_read}
-use Rattle.drc.specs.Covers.{coversOf}
-use Rattle.drc.proofs.Lines.{text-of-lines}
-use Rattle.drc.proofs.Drawings.{drawn-some, covers_of}
-use Rattle.drc.proofs.WireRule.{WireKept, number-drawn}
-use Rattle.drc.proofs.RulesByLine.{endLines, KeptWires, KeptTracks, KeptLoose, tracks-count}
+use Rattle.drc.specs.Covers.{covers_of}
+use Rattle.drc.proofs.Lines.{text_of_lines}
+use Rattle.drc.proofs.Drawings.{drawn_some, covers_of_lem}
+use Rattle.drc.proofs.WireRule.{WireKept, number_drawn}
+use Rattle.drc.proofs.RulesByLine.{end_lines, KeptWires, KeptTracks, KeptLoose, tracks_count}
 use Rattle.drc.proofs.JudgedTree.{KeptTree}
-use Rattle.drc.proofs.NewNumbers.{NewEach, new-join, new-distinct}
+use Rattle.drc.proofs.NewNumbers.{NewEach, new_join, new_distinct}
 
 -- the numbers of the nets of a job
-abbrev pub netNumbersOf : Job → List ℕ
-netNumbersOf job = map (λ n. n.number) job.nets
+abbrev pub net_numbers_of : Job → List ℕ
+net_numbers_of job = map (λ n. n.number) job.nets
 
 module _ (job : Job) (rise : EachPair (λ a b. a.number < b.number) job.nets) where
   -- ---- the wires of a track
-  module _ (t : ℕ) (earlier : List ℕ) (on-track : 1 ≤ t) (on-board : t ≤ job.board.tracks) where
+  module _ (t : ℕ) (earlier : List ℕ) (on_track : 1 ≤ t) (on_board : t ≤ job.board.tracks) where
     -- the placements that the wires vs draw below the wires ws
     record Places (ws vs : List Wire) : Type 0 where
       ps : List Placement
-      drawn : vs ≡ map (wireOf job.board t) ps
+      drawn : vs ≡ map (wire_of job.board t) ps
       placed : Each (SoundPlacement job earlier t) ps
       rows : EachPair (λ p q. bottom p < q.top) ps
-      under : Each (λ p. (v : Wire) (q : Placement) → Memᴰ v ws → coversOf job v ≡ some q → bottom q < p.top) ps
+      under : Each (λ p. (v : Wire) (q : Placement) → Memᴰ v ws → covers_of job v ≡ some q → bottom q < p.top) ps
 
-    sound-placement : (ws : List Wire) (v : Wire) (w : WireKept job t earlier ws v) → SoundPlacement job earlier t w.place
-    sound-placement ws v w =
-        let d = drawn-some job t on-track on-board v w.place w.found in
+    sound_placement : (ws : List Wire) (v : Wire) (w : WireKept job t earlier ws v) → SoundPlacement job earlier t w.place
+    sound_placement ws v w =
+        let d = drawn_some job t on_track on_board v w.place w.found in
         record {
-          of-job = d.of-job;
-          legal = record { allowed = w.allowed; from_one = d.from_one; over-upper = d.over-upper; under-lower = d.under-lower; to_last = d.to_last };
+          of_job = d.of_job;
+          legal = record { allowed = w.allowed; from_one = d.from_one; over_upper = d.over_upper; under_lower = d.under_lower; to_last = d.to_last };
           clear = w.clear;
           ready = w.ready;
         }
@@ -53,41 +53,41 @@ module _ (job : Job) (rise : EachPair (λ a b. a.number < b.number) job.nets) wh
     places_of ws [] k = record { ps = []; drawn = refl; placed = tt; rows = tt; under = tt }
     places_of ws (v ∷ vs) k =
         let w = k.0 in
-        let d = drawn-some job t on-track on-board v w.place w.found in
+        let d = drawn_some job t on_track on_board v w.place w.found in
         let r = places_of (ws ++ (v ∷ [])) vs k.1 in
         record {
           ps = w.place ∷ r.ps;
           drawn = ap₂ (λ x y. x ∷ y) d.drawn r.drawn;
-          placed = (sound-placement ws v w, r.placed);
-          rows = (Each-map r.ps (λ p u. u v w.place (Memᴰ.append_right ws (Memᴰ.head refl)) (covers_of job rise t v w.place d)) r.under, r.rows);
+          placed = (sound_placement ws v w, r.placed);
+          rows = (Each-map r.ps (λ p u. u v w.place (Memᴰ.append_right ws (Memᴰ.head refl)) (covers_of_lem job rise t v w.place d)) r.under, r.rows);
           under = (w.under, Each-map r.ps (λ p u x q i d. u x q (Memᴰ.append_left (v ∷ []) i) d) r.under);
         }
 
-    kept-number : (ws : List Wire) (v : Wire) (k : WireKept job t earlier ws v) → k.place.net.number ≡ v.number
-    kept-number ws v k = number-drawn (drawn-some job t on-track on-board v k.place k.found)
+    kept_number : (ws : List Wire) (v : Wire) (k : WireKept job t earlier ws v) → k.place.net.number ≡ v.number
+    kept_number ws v k = number_drawn (drawn_some job t on_track on_board v k.place k.found)
 
-    new-wires : (ws vs : List Wire) → KeptWires job t earlier ws vs → NewEach (earlier ++ wireNumbers ws) (wireNumbers vs)
-    new-wires ws [] k = tt
-    new-wires ws (v ∷ vs) k = (
-      λ i. k.0.new (Memᴰ.cast (kept-number ws v k.0) i),
-      rw (append_assoc earlier (wireNumbers ws) (v.number ∷ []), ← map-append (λ (x : Wire). x.number) ws (v ∷ [])) (new-wires (ws ++ (v ∷ [])) vs k.1),
+    new_wires : (ws vs : List Wire) → KeptWires job t earlier ws vs → NewEach (earlier ++ wire_numbers ws) (wire_numbers vs)
+    new_wires ws [] k = tt
+    new_wires ws (v ∷ vs) k = (
+      λ i. k.0.new (Memᴰ.cast (kept_number ws v k.0) i),
+      rw (append_assoc earlier (wire_numbers ws) (v.number ∷ []), ← map-append (λ (x : Wire). x.number) ws (v ∷ [])) (new_wires (ws ++ (v ∷ [])) vs k.1),
     )
 
-    known-wires : (ws vs : List Wire) → KeptWires job t earlier ws vs → Each (λ k. Memᴰ k (netNumbersOf job)) (wireNumbers vs)
-    known-wires ws [] k = tt
-    known-wires ws (v ∷ vs) k =
-        let d = drawn-some job t on-track on-board v k.0.place k.0.found in
-        (Memᴰ.cast (sym (kept-number ws v k.0)) (Memᴰ.map (λ n. n.number) d.of-job), known-wires (ws ++ (v ∷ [])) vs k.1)
+    known_wires : (ws vs : List Wire) → KeptWires job t earlier ws vs → Each (λ k. Memᴰ k (net_numbers_of job)) (wire_numbers vs)
+    known_wires ws [] k = tt
+    known_wires ws (v ∷ vs) k =
+        let d = drawn_some job t on_track on_board v k.0.place k.0.found in
+        (Memᴰ.cast (sym (kept_number ws v k.0)) (Memᴰ.map (λ n. n.number) d.of_job), known_wires (ws ++ (v ∷ [])) vs k.1)
 
   -- ---- the tracks
 
-  tracks-sound : (t : ℕ) (earlier : List ℕ) (trs : List DrawnTrack) → KeptTracks job t earlier trs → SoundTracks job earlier (suc t) trs
-  tracks-sound t earlier [] k = tt
-  tracks-sound t earlier (tr ∷ trs) k =
-      let c = tracks-count job (suc t) (earlier ++ wireNumbers tr.wires) trs k.3 in
+  tracks_sound : (t : ℕ) (earlier : List ℕ) (trs : List DrawnTrack) → KeptTracks job t earlier trs → SoundTracks job earlier (suc t) trs
+  tracks_sound t earlier [] k = tt
+  tracks_sound t earlier (tr ∷ trs) k =
+      let c = tracks_count job (suc t) (earlier ++ wire_numbers tr.wires) trs k.3 in
       let r = places_of (suc t) earlier (omega arith) (omega arith) [] tr.wires k.2 in (
         record {
-          track-is = k.0;
+          track_is = k.0;
           places = r.ps;
           drawn = r.drawn;
           placed = r.placed;
@@ -95,64 +95,64 @@ module _ (job : Job) (rise : EachPair (λ a b. a.number < b.number) job.nets) wh
           apart = EachPair-map r.ps (λ p q l row a b c d. omega (arith, l)) r.rows;
           sum_is = k.1;
         },
-        tracks-sound (suc t) (earlier ++ wireNumbers tr.wires) trs k.3,
+        tracks_sound (suc t) (earlier ++ wire_numbers tr.wires) trs k.3,
       )
 
-  new-tracks : (t : ℕ) (earlier : List ℕ) (trs : List DrawnTrack) → KeptTracks job t earlier trs → NewEach earlier (trackNumbers trs)
-  unfolding trackNumbers
-  new-tracks t earlier [] k = tt
-  new-tracks t earlier (tr ∷ trs) k =
-      let c = tracks-count job (suc t) (earlier ++ wireNumbers tr.wires) trs k.3 in
-      new-join earlier (wireNumbers tr.wires) (trackNumbers trs)
-      (rw (append-nil earlier) at (new-wires (suc t) earlier (omega arith) (omega arith) [] tr.wires k.2))
-      (new-tracks (suc t) (earlier ++ wireNumbers tr.wires) trs k.3)
+  new_tracks : (t : ℕ) (earlier : List ℕ) (trs : List DrawnTrack) → KeptTracks job t earlier trs → NewEach earlier (track_numbers trs)
+  unfolding track_numbers
+  new_tracks t earlier [] k = tt
+  new_tracks t earlier (tr ∷ trs) k =
+      let c = tracks_count job (suc t) (earlier ++ wire_numbers tr.wires) trs k.3 in
+      new_join earlier (wire_numbers tr.wires) (track_numbers trs)
+      (rw (append-nil earlier) at (new_wires (suc t) earlier (omega arith) (omega arith) [] tr.wires k.2))
+      (new_tracks (suc t) (earlier ++ wire_numbers tr.wires) trs k.3)
 
-  known-tracks : (t : ℕ) (earlier : List ℕ) (trs : List DrawnTrack) → KeptTracks job t earlier trs → Each (λ k. Memᴰ k (netNumbersOf job)) (trackNumbers trs)
-  unfolding trackNumbers
-  known-tracks t earlier [] k = tt
-  known-tracks t earlier (tr ∷ trs) k =
-      let c = tracks-count job (suc t) (earlier ++ wireNumbers tr.wires) trs k.3 in
-      Each-join (λ j. Memᴰ j (netNumbersOf job)) (wireNumbers tr.wires) (trackNumbers trs)
-      (known-wires (suc t) earlier (omega arith) (omega arith) [] tr.wires k.2) (known-tracks (suc t) (earlier ++ wireNumbers tr.wires) trs k.3)
+  known_tracks : (t : ℕ) (earlier : List ℕ) (trs : List DrawnTrack) → KeptTracks job t earlier trs → Each (λ k. Memᴰ k (net_numbers_of job)) (track_numbers trs)
+  unfolding track_numbers
+  known_tracks t earlier [] k = tt
+  known_tracks t earlier (tr ∷ trs) k =
+      let c = tracks_count job (suc t) (earlier ++ wire_numbers tr.wires) trs k.3 in
+      Each-join (λ j. Memᴰ j (net_numbers_of job)) (wire_numbers tr.wires) (track_numbers trs)
+      (known_wires (suc t) earlier (omega arith) (omega arith) [] tr.wires k.2) (known_tracks (suc t) (earlier ++ wire_numbers tr.wires) trs k.3)
 
   -- ---- the loose lines
 
-  new-loose : (wired ns ks : List ℕ) → KeptLoose job wired ns ks → NewEach (wired ++ ns) ks
-  new-loose wired ns [] k = tt
-  new-loose wired ns (j ∷ ks) k = (
+  new_loose : (wired ns ks : List ℕ) → KeptLoose job wired ns ks → NewEach (wired ++ ns) ks
+  new_loose wired ns [] k = tt
+  new_loose wired ns (j ∷ ks) k = (
     k.0.new,
-    rw (append_assoc wired ns (j ∷ [])) (new-loose wired (ns ++ (j ∷ [])) ks k.1),
+    rw (append_assoc wired ns (j ∷ [])) (new_loose wired (ns ++ (j ∷ [])) ks k.1),
   )
 
-  known-loose : (wired ns ks : List ℕ) → KeptLoose job wired ns ks → Each (λ k. Memᴰ k (netNumbersOf job)) ks
-  known-loose wired ns [] k = tt
-  known-loose wired ns (j ∷ ks) k = (k.0.known, known-loose wired (ns ++ (j ∷ [])) ks k.1)
+  known_loose : (wired ns ks : List ℕ) → KeptLoose job wired ns ks → Each (λ k. Memᴰ k (net_numbers_of job)) ks
+  known_loose wired ns [] k = tt
+  known_loose wired ns (j ∷ ks) k = (k.0.known, known_loose wired (ns ++ (j ∷ [])) ks k.1)
 
-  above-loose : (wired ns ks : List ℕ) → KeptLoose job wired ns ks → Each (λ k. (j : ℕ) → Memᴰ j ns → j < k) ks
-  above-loose wired ns [] k = tt
-  above-loose wired ns (i ∷ ks) k = (k.0.above, Each-map ks (λ x f j m. f j (Memᴰ.append_left (i ∷ []) m)) (above-loose wired (ns ++ (i ∷ [])) ks k.1))
+  above_loose : (wired ns ks : List ℕ) → KeptLoose job wired ns ks → Each (λ k. (j : ℕ) → Memᴰ j ns → j < k) ks
+  above_loose wired ns [] k = tt
+  above_loose wired ns (i ∷ ks) k = (k.0.above, Each-map ks (λ x f j m. f j (Memᴰ.append_left (i ∷ []) m)) (above_loose wired (ns ++ (i ∷ [])) ks k.1))
 
-  rise-loose : (wired ns ks : List ℕ) → KeptLoose job wired ns ks → EachPair (λ j k. j < k) ks
-  rise-loose wired ns [] k = tt
-  rise-loose wired ns (i ∷ ks) k =
-      (Each-map ks (λ x f. f i (Memᴰ.append_right ns (Memᴰ.head refl))) (above-loose wired (ns ++ (i ∷ [])) ks k.1), rise-loose wired (ns ++ (i ∷ [])) ks k.1)
+  rise_loose : (wired ns ks : List ℕ) → KeptLoose job wired ns ks → EachPair (λ j k. j < k) ks
+  rise_loose wired ns [] k = tt
+  rise_loose wired ns (i ∷ ks) k =
+      (Each-map ks (λ x f. f i (Memᴰ.append_right ns (Memᴰ.head refl))) (above_loose wired (ns ++ (i ∷ [])) ks k.1), rise_loose wired (ns ++ (i ∷ [])) ks k.1)
 
   -- ---- the layout
 
-  pub kept-tree-sound : (text : List ℕ) → KeptTree job (lines_read text) → Sound job text
-  unfolding layoutText layoutLines lineNumbers
-  kept-tree-sound text r =
+  pub kept_tree_sound : (text : List ℕ) → KeptTree job (lines_read text) → Sound job text
+  unfolding layout_text layout_lines line_numbers
+  kept_tree_sound text r =
       let l : Layout = record { tracks = r.trs; loose = r.ks } in
       record {
         layout = l;
-        rendered = text-of-lines text (opens ∷ tracksThen r.trs (endLines r.ks)) r.lines_are;
-        count = omega (arith, tracks-count job 0 [] r.trs r.tracks);
-        tracks = tracks-sound 0 [] r.trs r.tracks;
-        loose-rise = rise-loose (trackNumbers r.trs) [] r.ks r.looses;
-        each = r.none-missing;
-        no_other = λ k i. Each-at (λ j. Memᴰ j (netNumbersOf job)) (trackNumbers r.trs ++ r.ks) k
-            (Each-join (λ j. Memᴰ j (netNumbersOf job)) (trackNumbers r.trs) r.ks (known-tracks 0 [] r.trs r.tracks)
-            (known-loose (trackNumbers r.trs) [] r.ks r.looses)) i;
-        once = new-distinct [] (trackNumbers r.trs ++ r.ks) (new-join [] (trackNumbers r.trs) r.ks (new-tracks 0 [] r.trs r.tracks)
-            (rw (append-nil (trackNumbers r.trs)) at (new-loose (trackNumbers r.trs) [] r.ks r.looses)));
+        rendered = text_of_lines text (opens ∷ tracks_then r.trs (end_lines r.ks)) r.lines_are;
+        count = omega (arith, tracks_count job 0 [] r.trs r.tracks);
+        tracks = tracks_sound 0 [] r.trs r.tracks;
+        loose_rise = rise_loose (track_numbers r.trs) [] r.ks r.looses;
+        each = r.none_missing;
+        no_other = λ k i. Each-at (λ j. Memᴰ j (net_numbers_of job)) (track_numbers r.trs ++ r.ks) k
+            (Each-join (λ j. Memᴰ j (net_numbers_of job)) (track_numbers r.trs) r.ks (known_tracks 0 [] r.trs r.tracks)
+            (known_loose (track_numbers r.trs) [] r.ks r.looses)) i;
+        once = new_distinct [] (track_numbers r.trs ++ r.ks) (new_join [] (track_numbers r.trs) r.ks (new_tracks 0 [] r.trs r.tracks)
+            (rw (append-nil (track_numbers r.trs)) at (new_loose (track_numbers r.trs) [] r.ks r.looses)));
       }

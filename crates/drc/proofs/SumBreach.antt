@@ -7,23 +7,23 @@ use mathlib.Core.List.{List, []}
 use native.Mathlib.Omega.{arith}
 use Rattle.board.specs.Job.{Job}
 use Rattle.layout.specs.Tree.{Line}
-use Rattle.sound.specs.Wires.{wiresSum}
-use Rattle.drc.specs.Standing.{inLayout}
+use Rattle.sound.specs.Wires.{wires_sum}
+use Rattle.drc.specs.Standing.{in_layout}
 use Rattle.drc.specs.Breach.{FalseSum}
-use Rattle.drc.specs.Judge.{isTrueSum}
-use Rattle.drc.proofs.InPlace.{can-stand-of}
-use Rattle.drc.proofs.SumRule.{ends_of, sum-fails}
+use Rattle.drc.specs.Judge.{is_true_sum}
+use Rattle.drc.proofs.InPlace.{can_stand_of}
+use Rattle.drc.proofs.SumRule.{ends_of, sum_fails}
 
 module _ (job : Job) (u s : ℕ) where
-  pub fails-sum : (earlier : List ℕ) (ls : List (Option Line)) → isTrueSum job u s 0 ls ≡ false → FalseSum job earlier u s ls
-  fails-sum earlier ls f =
-      let r = sum-fails job u s 0 ls f in
+  pub fails_sum : (earlier : List ℕ) (ls : List (Option Line)) → is_true_sum job u s 0 ls ≡ false → FalseSum job earlier u s ls
+  fails_sum earlier ls f =
+      let r = sum_fails job u s 0 ls f in
       record {
         wires = r.wires;
         next = r.next;
         rest = r.rest;
-        lines-below = r.lines-below;
-        ends-wires = r.ends-wires;
-        can-stand = can-stand-of job (inLayout u earlier r.wires []) r.next (rw (ends_of job u s r.next r.ends-wires earlier r.wires) at r.ends);
-        differs = λ (e : wiresSum job r.wires ≡ s). r.differs (omega arith);
+        lines_below = r.lines_below;
+        ends_wires = r.ends_wires;
+        can_stand = can_stand_of job (in_layout u earlier r.wires []) r.next (rw (ends_of job u s r.next r.ends_wires earlier r.wires) at r.ends);
+        differs = λ (e : wires_sum job r.wires ≡ s). r.differs (omega arith);
       }

@@ -4,23 +4,23 @@ use Rattle.std.specs.Prelude.{ℕ, suc, cond, List, [], ◌∷◌}
 use Rattle.std.proofs.Math.Option.{Option, none, some}
 use Rattle.board.specs.Job.{Job}
 use Rattle.layout.specs.Tree.{Line}
-use Rattle.drc.specs.Standing.{lines_read, Above, beforeLayout, inLayout, behindLayout, withLine}
-use Rattle.drc.specs.Judge.{isInPlace, keepsRules}
+use Rattle.drc.specs.Standing.{lines_read, Above, before_layout, in_layout, behind_layout, with_line}
+use Rattle.drc.specs.Judge.{is_in_place, keeps_rules}
 
 -- at the end of the text, where n is the line after the last: n is broken if the text stops early
-unfoldable pub brokenEnd : ℕ → Above → List ℕ
-brokenEnd n beforeLayout = n ∷ []
-brokenEnd n (inLayout t earlier ws ns) = n ∷ []
-brokenEnd n behindLayout = []
+unfoldable pub broken_end : ℕ → Above → List ℕ
+broken_end n before_layout = n ∷ []
+broken_end n (in_layout t earlier ws ns) = n ∷ []
+broken_end n behind_layout = []
 
 -- the broken ones of the lines from line n on, which have a above them
-unfoldable pub brokenFrom : Job → ℕ → Above → List (Option Line) → List ℕ
-brokenFrom job n a [] = brokenEnd n a
-brokenFrom job n a (none ∷ ls) = n ∷ []
-brokenFrom job n a (some x ∷ ls) =
-    let rest = brokenFrom job (suc n) (withLine a x) ls in
-    cond (isInPlace job a x) (cond (keepsRules job a x ls) rest (n ∷ rest)) (n ∷ [])
+unfoldable pub broken_from : Job → ℕ → Above → List (Option Line) → List ℕ
+broken_from job n a [] = broken_end n a
+broken_from job n a (none ∷ ls) = n ∷ []
+broken_from job n a (some x ∷ ls) =
+    let rest = broken_from job (suc n) (with_line a x) ls in
+    cond (is_in_place job a x) (cond (keeps_rules job a x ls) rest (n ∷ rest)) (n ∷ [])
 
 -- the broken lines of a text, from the top
-unfoldable pub brokenLines : Job → List ℕ → List ℕ
-brokenLines job text = brokenFrom job 1 beforeLayout (lines_read text)
+unfoldable pub broken_lines : Job → List ℕ → List ℕ
+broken_lines job text = broken_from job 1 before_layout (lines_read text)

@@ -5,12 +5,12 @@ use Rattle.std.proofs.Math.Option.{Option, none, some}
 use Rattle.lists.specs.Lists.{all_of}
 use Rattle.board.specs.Job.{Job}
 use Rattle.board.specs.Placement.{Placement, bottom}
-use Rattle.board.specs.Tests.{isOn}
+use Rattle.board.specs.Tests.{is_on}
 use Rattle.layout.specs.Tree.{Wire, Line, opens, track, wire, loose, closes}
-use Rattle.sound.specs.Wires.{weightOf}
+use Rattle.sound.specs.Wires.{weight_of}
 use Rattle.drc.specs.Standing.{lines_read}
-use Rattle.drc.specs.Covers.{drawnBy}
-use Rattle.drc.specs.Judge.{isInTurn, isOpening, isSoundPlace, isUnlined, Verdict, sound-text, broken-at}
+use Rattle.drc.specs.Covers.{drawn_by}
+use Rattle.drc.specs.Judge.{is_in_turn, is_opening, is_sound_place, is_unlined, Verdict, sound_text, broken_at}
 
 -- what is kept of the lines above, where `(layout` stands above and `)` does not
 pub record Summary : Type 0 where
@@ -34,47 +34,47 @@ pub record Summary : Type 0 where
   pub breach : Option ℕ
 
 -- what is kept right behind `(layout`
-abbrev pub emptySummary : Summary
-emptySummary = record { track = 0; line = 0; printed = 0; sum = 0; earlier = []; lined = []; lowest = 0; last = 0; breach = none }
+abbrev pub empty_summary : Summary
+empty_summary = record { track = 0; line = 0; printed = 0; sum = 0; earlier = []; lined = []; lowest = 0; last = 0; breach = none }
 
 -- what is kept behind line n, a line of track u that prints the sum s
-abbrev pub addTrack : ℕ → ℕ → ℕ → Summary → Summary
-addTrack n u s m =
+abbrev pub add_track : ℕ → ℕ → ℕ → Summary → Summary
+add_track n u s m =
     record { track = u; line = n; printed = s; sum = 0; earlier = m.lined; lined = m.lined; lowest = 0; last = m.last; breach = none }
 
 -- a wire that draws p may stand below the lines kept; one that draws none may not
-unfoldable pub isNextWire : Job → Summary → Option Placement → Bool
-isNextWire job m none = false
-isNextWire job m (some p) = isSoundPlace job m.track m.earlier m.lined p && ltb m.lowest p.top
+unfoldable pub is_next_wire : Job → Summary → Option Placement → Bool
+is_next_wire job m none = false
+is_next_wire job m (some p) = is_sound_place job m.track m.earlier m.lined p && ltb m.lowest p.top
 
 -- the lowest row of a wire that draws a placement, or r if it draws none
-unfoldable pub lowestOf : ℕ → Option Placement → ℕ
-lowestOf r none = r
-lowestOf r (some p) = bottom p
+unfoldable pub lowest_of : ℕ → Option Placement → ℕ
+lowest_of r none = r
+lowest_of r (some p) = bottom p
 
 -- the line of the first broken wire, where the wire of line n is the last
-unfoldable pub breachAfter : Option ℕ → ℕ → Bool → Option ℕ
-breachAfter (some l) n passed = some l
-breachAfter none n passed = cond passed none (some n)
+unfoldable pub breach_after : Option ℕ → ℕ → Bool → Option ℕ
+breach_after (some l) n passed = some l
+breach_after none n passed = cond passed none (some n)
 
 -- what is kept behind line n, a wire that draws p: broken or not, it counts by its number
-abbrev pub addWire : Job → ℕ → Wire → Option Placement → Summary → Summary
-addWire job n w p m =
+abbrev pub add_wire : Job → ℕ → Wire → Option Placement → Summary → Summary
+add_wire job n w p m =
     record {
       track = m.track;
       line = m.line;
       printed = m.printed;
-      sum = m.sum + weightOf job w.number;
+      sum = m.sum + weight_of job w.number;
       earlier = m.earlier;
       lined = m.lined ++ (w.number ∷ []);
-      lowest = lowestOf m.lowest p;
+      lowest = lowest_of m.lowest p;
       last = m.last;
-      breach = breachAfter m.breach n (isNextWire job m p);
+      breach = breach_after m.breach n (is_next_wire job m p);
     }
 
 -- what is kept behind a loose line of number k
-abbrev pub addLoose : ℕ → Summary → Summary
-addLoose k m =
+abbrev pub add_loose : ℕ → Summary → Summary
+add_loose k m =
     record {
       track = m.track;
       line = m.line;
@@ -99,64 +99,64 @@ pub data PassStep : Type 0 where
   decides : Verdict → PassStep
 
 -- the judging closes at line n, and the sum of the last track line is not judged: a broken wire above is the verdict, or line n is
-unfoldable pub closedAt : Option ℕ → ℕ → Verdict
-closedAt none n = broken-at n
-closedAt (some l) n = broken-at l
+unfoldable pub closed_at : Option ℕ → ℕ → Verdict
+closed_at none n = broken_at n
+closed_at (some l) n = broken_at l
 
 -- a broken wire above is the verdict; x where there is none
-unfoldable pub unlessBreach : Option ℕ → PassStep → PassStep
-unlessBreach none x = x
-unlessBreach (some l) x = decides (broken-at l)
+unfoldable pub unless_breach : Option ℕ → PassStep → PassStep
+unless_breach none x = x
+unless_breach (some l) x = decides (broken_at l)
 
 -- where the wires of a track end, its sum is judged, at its track line, then its wires; x where nothing is broken
-unfoldable pub judgedTrack : Summary → PassStep → PassStep
-judgedTrack m x = cond (eqb m.sum m.printed) (unlessBreach m.breach x) (decides (broken-at m.line))
+unfoldable pub judged_track : Summary → PassStep → PassStep
+judged_track m x = cond (eqb m.sum m.printed) (unless_breach m.breach x) (decides (broken_at m.line))
 
 -- x where line n passes its test; otherwise line n is broken
-unfoldable pub orBroken : ℕ → Bool → PassStep → PassStep
-orBroken n passed x = cond passed x (decides (broken-at n))
+unfoldable pub or_broken : ℕ → Bool → PassStep → PassStep
+or_broken n passed x = cond passed x (decides (broken_at n))
 
 -- the step at line n, which can stand behind `(layout` and the lines above
-unfoldable pub passInTurn : Job → ℕ → Summary → Line → PassStep
-passInTurn job n m opens = passes_on (running m)
-passInTurn job n m (track u s) = judgedTrack m (passes_on (running (addTrack n u s m)))
-passInTurn job n m (wire w) = passes_on (running (addWire job n w (drawnBy job m.track w) m))
-passInTurn job n m (loose k) = judgedTrack m (orBroken n (isUnlined job m.lined k && ltb m.last k) (passes_on (running (addLoose k m))))
-passInTurn job n m closes = judgedTrack m (orBroken n (all_of (isOn m.lined) job.nets) (passes_on finished))
+unfoldable pub pass_in_turn : Job → ℕ → Summary → Line → PassStep
+pass_in_turn job n m opens = passes_on (running m)
+pass_in_turn job n m (track u s) = judged_track m (passes_on (running (add_track n u s m)))
+pass_in_turn job n m (wire w) = passes_on (running (add_wire job n w (drawn_by job m.track w) m))
+pass_in_turn job n m (loose k) = judged_track m (or_broken n (is_unlined job m.lined k && ltb m.last k) (passes_on (running (add_loose k m))))
+pass_in_turn job n m closes = judged_track m (or_broken n (all_of (is_on m.lined) job.nets) (passes_on finished))
 
 -- the step at line n, which is of the form
-unfoldable pub passLine : Job → ℕ → PassState → Line → PassStep
-passLine job n unbegun x = orBroken n (isOpening x) (passes_on (running emptySummary))
-passLine job n (running m) x = cond (isInTurn job m.track (eqb m.last 0) x) (passInTurn job n m x) (decides (closedAt m.breach n))
-passLine job n finished x = decides (broken-at n)
+unfoldable pub pass_line : Job → ℕ → PassState → Line → PassStep
+pass_line job n unbegun x = or_broken n (is_opening x) (passes_on (running empty_summary))
+pass_line job n (running m) x = cond (is_in_turn job m.track (eqb m.last 0) x) (pass_in_turn job n m x) (decides (closed_at m.breach n))
+pass_line job n finished x = decides (broken_at n)
 
 -- the verdict at line n, which is not of the form
-unfoldable pub passIllFormed : ℕ → PassState → Verdict
-passIllFormed n unbegun = broken-at n
-passIllFormed n (running m) = closedAt m.breach n
-passIllFormed n finished = broken-at n
+unfoldable pub pass_ill_formed : ℕ → PassState → Verdict
+pass_ill_formed n unbegun = broken_at n
+pass_ill_formed n (running m) = closed_at m.breach n
+pass_ill_formed n finished = broken_at n
 
 -- one step of the pass: line n as it is read
-unfoldable pub passStep : Job → ℕ → PassState → Option Line → PassStep
-passStep job n st none = decides (passIllFormed n st)
-passStep job n st (some x) = passLine job n st x
+unfoldable pub pass_step : Job → ℕ → PassState → Option Line → PassStep
+pass_step job n st none = decides (pass_ill_formed n st)
+pass_step job n st (some x) = pass_line job n st x
 
 -- the verdict at the end of the text, where n is the line after the last
-unfoldable pub passEnd : ℕ → PassState → Verdict
-passEnd n unbegun = broken-at n
-passEnd n (running m) = closedAt m.breach n
-passEnd n finished = sound-text
+unfoldable pub pass_end : ℕ → PassState → Verdict
+pass_end n unbegun = broken_at n
+pass_end n (running m) = closed_at m.breach n
+pass_end n finished = sound_text
 
 -- the verdict stands, or the lines below give it
-unfoldable pub afterStep : PassStep → (PassState → Verdict) → Verdict
-afterStep (passes_on st) f = f st
-afterStep (decides v) f = v
+unfoldable pub after_step : PassStep → (PassState → Verdict) → Verdict
+after_step (passes_on st) f = f st
+after_step (decides v) f = v
 
 -- the verdict of the pass over the lines from line n on
-unfoldable pub passFrom : Job → ℕ → PassState → List (Option Line) → Verdict
-passFrom job n st [] = passEnd n st
-passFrom job n st (x ∷ ls) = afterStep (passStep job n st x) (λ next. passFrom job (suc n) next ls)
+unfoldable pub pass_from : Job → ℕ → PassState → List (Option Line) → Verdict
+pass_from job n st [] = pass_end n st
+pass_from job n st (x ∷ ls) = after_step (pass_step job n st x) (λ next. pass_from job (suc n) next ls)
 
 -- the verdict on a layout text, in one pass
-unfoldable pub passOver : Job → List ℕ → Verdict
-passOver job text = passFrom job 1 unbegun (lines_read text)
+unfoldable pub pass_over : Job → List ℕ → Verdict
+pass_over job text = pass_from job 1 unbegun (lines_read text)

@@ -3,26 +3,26 @@ use Prim.Native.Nat.{ℕ}
 use mathlib.Core.Path.{◌≡◌, sym, ap, subst, ◌∙◌}
 use mathlib.Core.Bool.{Bool, true, false}
 use mathlib.Core.List.{List}
-use Rattle.jobfile.specs.Read.{readJob}
+use Rattle.jobfile.specs.Read.{read_job}
 use Rattle.checker.specs.declared.CheckAnswer.{CheckAnswer}
-use Rattle.checker.specs.Answers.{checkValues, checkAnswer}
+use Rattle.checker.specs.Answers.{check_values, check_answer}
 use Rattle.checker.specs.RightVerdict.{RightVerdict}
-use Rattle.exports.specs.Exported.{oneIf, CheckRepliesWith}
+use Rattle.exports.specs.Exported.{one_if, CheckRepliesWith}
 
-pub one-if-yes : (b : Bool) → b ≡ true → 1 ≡ oneIf b
-unfolding oneIf
-one-if-yes b e = sym (ap oneIf e)
+pub one_if_yes : (b : Bool) → b ≡ true → 1 ≡ one_if b
+unfolding one_if
+one_if_yes b e = sym (ap one_if e)
 
-pub one-if-no : (b : Bool) → b ≡ false → 0 ≡ oneIf b
-unfolding oneIf
-one-if-no b e = sym (ap oneIf e)
+pub one_if_no : (b : Bool) → b ≡ false → 0 ≡ one_if b
+unfolding one_if
+one_if_no b e = sym (ap one_if e)
 
-pub check-reply-given : (job layout : List ℕ) (a : CheckAnswer) → a ≡ checkAnswer (readJob job) layout → RightVerdict job layout a →
-    (n l k : ℕ) (b : Bool) → n ≡ (checkValues a).number → l ≡ (checkValues a).line → b ≡ (checkValues a).broken → k ≡ oneIf b →
+pub check_reply_given : (job layout : List ℕ) (a : CheckAnswer) → a ≡ check_answer (read_job job) layout → RightVerdict job layout a →
+    (n l k : ℕ) (b : Bool) → n ≡ (check_values a).number → l ≡ (check_values a).line → b ≡ (check_values a).broken → k ≡ one_if b →
     record {
-      answer : CheckRepliesWith (checkAnswer (readJob job) layout) n l k;
+      answer : CheckRepliesWith (check_answer (read_job job) layout) n l k;
       right : (y : CheckAnswer) × (CheckRepliesWith y n l k × RightVerdict job layout y);
     }
-check-reply-given job layout a q r n l k b e f g h =
-    let w : CheckRepliesWith a n l k = record { number_is = e; line-is = f; broken-is = h ∙ ap oneIf g } in
+check_reply_given job layout a q r n l k b e f g h =
+    let w : CheckRepliesWith a n l k = record { number_is = e; line_is = f; broken_is = h ∙ ap one_if g } in
     record { answer = subst (λ (y : CheckAnswer). CheckRepliesWith y n l k) q w; right = (a, (w, r)) }

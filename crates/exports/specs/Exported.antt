@@ -3,40 +3,40 @@ use Rattle.std.specs.Prelude.{ℕ, ◌+◌, ◌≡◌, Bool, true, false, List, 
 use Rattle.jobfile.specs.Read.{Read, accepted, refused}
 use Rattle.jobfile.specs.Answers.{number_of}
 use Rattle.planning.specs.Plan.{plan_of}
-use Rattle.planning.specs.Loose.{sumOfTracks}
+use Rattle.planning.specs.Loose.{sum_of_tracks}
 use Rattle.answers.specs.declared.TextAnswer.{TextAnswer}
-use Rattle.answers.specs.Answers.{answerValues}
+use Rattle.answers.specs.Answers.{answer_values}
 use Rattle.checker.specs.declared.CheckAnswer.{CheckAnswer}
-use Rattle.checker.specs.Answers.{checkValues}
+use Rattle.checker.specs.Answers.{check_values}
 
 -- numbers added up
-unfoldable pub addedUp : List ℕ → ℕ
-addedUp [] = 0
-addedUp (x ∷ xs) = x + addedUp xs
+unfoldable pub added_up : List ℕ → ℕ
+added_up [] = 0
+added_up (x ∷ xs) = x + added_up xs
 
 -- the number of a refusal; 0 where the text is accepted
-unfoldable pub refusalOf : Read → ℕ
-refusalOf (accepted job) = 0
-refusalOf (refused o) = number_of o
+unfoldable pub refusal_of : Read → ℕ
+refusal_of (accepted job) = 0
+refusal_of (refused o) = number_of o
 
 -- the sums of all tracks of the job's plan, added up; 0 where the text is refused
-unfoldable pub planSum : Read → ℕ
-planSum (accepted job) = sumOfTracks (plan_of job)
-planSum (refused o) = 0
+unfoldable pub plan_sum : Read → ℕ
+plan_sum (accepted job) = sum_of_tracks (plan_of job)
+plan_sum (refused o) = 0
 
 -- an answer of an operation that writes a text has this number, line and bytes in document 01's numbers
 pub record RepliesWith (a : TextAnswer) (number line bytes : ℕ) : Type 0 where
-  pub number_is : number ≡ (answerValues a).number
-  pub line-is : line ≡ (answerValues a).line
-  pub bytes-is : bytes ≡ (answerValues a).bytes
+  pub number_is : number ≡ (answer_values a).number
+  pub line_is : line ≡ (answer_values a).line
+  pub bytes_is : bytes ≡ (answer_values a).bytes
 
 -- a yes or no as a number
-unfoldable pub oneIf : Bool → ℕ
-oneIf true = 1
-oneIf false = 0
+unfoldable pub one_if : Bool → ℕ
+one_if true = 1
+one_if false = 0
 
 -- an answer of check has this number, line and word in document 01's words: broken is 1 where the layout is broken, otherwise 0
 pub record CheckRepliesWith (a : CheckAnswer) (number line broken : ℕ) : Type 0 where
-  pub number_is : number ≡ (checkValues a).number
-  pub line-is : line ≡ (checkValues a).line
-  pub broken-is : broken ≡ oneIf (checkValues a).broken
+  pub number_is : number ≡ (check_values a).number
+  pub line_is : line ≡ (check_values a).line
+  pub broken_is : broken ≡ one_if (check_values a).broken

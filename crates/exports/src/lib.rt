@@ -3,21 +3,21 @@
 #![tactic(auto)]
 
 ghost use Rattle.std.specs.Prelude.{◌≡◌, ◌≤◌, length, take};
-ghost use Rattle.jobfile.specs.Read.{readJob};
+ghost use Rattle.jobfile.specs.Read.{read_job};
 ghost use Rattle.jobfile.specs.OfAccepted.{OfAccepted};
 ghost use Rattle.planning.specs.Plan.{plan_of};
 ghost use Rattle.sound.specs.Sound.{Sound};
 ghost use Rattle.routing.specs.Promises.{ShortestText, UnbeatenText};
-ghost use Rattle.routing.specs.Route.{routeText};
+ghost use Rattle.routing.specs.Route.{route_text};
 ghost use Rattle.router.specs.LayoutLength.{LayoutLength};
-ghost use Rattle.house.specs.HouseText.{houseText};
+ghost use Rattle.house.specs.HouseText.{house_text};
 ghost use Rattle.house.specs.Promises.{IsFixed, FixedLength, ReadsBack, OneText, FixedAgain};
 ghost use Rattle.answers.specs.declared.TextAnswer.{TextAnswer};
-ghost use Rattle.answers.specs.Answers.{textAnswer, RightFor, bufferAfter};
+ghost use Rattle.answers.specs.Answers.{text_answer, RightFor, buffer_after};
 ghost use Rattle.checker.specs.declared.CheckAnswer.{CheckAnswer};
-ghost use Rattle.checker.specs.Answers.{checkAnswer};
+ghost use Rattle.checker.specs.Answers.{check_answer};
 ghost use Rattle.checker.specs.RightVerdict.{RightVerdict};
-ghost use Rattle.exports.specs.Exported.{addedUp, refusalOf, planSum, oneIf, RepliesWith, CheckRepliesWith};
+ghost use Rattle.exports.specs.Exported.{added_up, refusal_of, plan_sum, one_if, RepliesWith, CheckRepliesWith};
 
 // Routes a job into a buffer, and answers in document 01's numbers: the number of the refusal, 0 where the layout is written; through
 // `line` the line that it names, 0 where it names none; through `bytes` the length of the layout, written or needed. They are the values
@@ -29,12 +29,12 @@ pub extern "C" fn hankuribo_route(
     line: &mut usize,
     bytes: &mut usize,
 ) -> usize
-    ensures answer { RepliesWith (textAnswer routeText (readJob job.now) (length out.old)) result line.new bytes.new }
+    ensures answer { RepliesWith (text_answer route_text (read_job job.now) (length out.old)) result line.new bytes.new }
     ensures right { (a : TextAnswer) × (RepliesWith a result line.new bytes.new × RightFor LayoutLength job.now (length out.old) a) }
-    ensures buffer { out.new ≡ bufferAfter routeText (readJob job.now) out.old }
-    ensures shortest { result ≡ 0 → OfAccepted (λ j. ShortestText j (plan_of j) (take bytes.new out.new)) (readJob job.now) }
-    ensures sound { result ≡ 0 → OfAccepted (λ j. Sound j (take bytes.new out.new)) (readJob job.now) }
-    ensures unbeaten { result ≡ 0 → OfAccepted (λ j. UnbeatenText j (take bytes.new out.new)) (readJob job.now) }
+    ensures buffer { out.new ≡ buffer_after route_text (read_job job.now) out.old }
+    ensures shortest { result ≡ 0 → OfAccepted (λ j. ShortestText j (plan_of j) (take bytes.new out.new)) (read_job job.now) }
+    ensures sound { result ≡ 0 → OfAccepted (λ j. Sound j (take bytes.new out.new)) (read_job job.now) }
+    ensures unbeaten { result ≡ 0 → OfAccepted (λ j. UnbeatenText j (take bytes.new out.new)) (read_job job.now) }
 {
     let answer = router::route(job, out);
     *line = answers::answer_line(answer);
@@ -51,13 +51,13 @@ pub extern "C" fn hankuribo_house(
     line: &mut usize,
     bytes: &mut usize,
 ) -> usize
-    ensures answer { RepliesWith (textAnswer houseText (readJob job.now) (length out.old)) result line.new bytes.new }
+    ensures answer { RepliesWith (text_answer house_text (read_job job.now) (length out.old)) result line.new bytes.new }
     ensures right { (a : TextAnswer) × (RepliesWith a result line.new bytes.new × RightFor FixedLength job.now (length out.old) a) }
-    ensures buffer { out.new ≡ bufferAfter houseText (readJob job.now) out.old }
-    ensures fixed { result ≡ 0 → OfAccepted (λ j. IsFixed j (take bytes.new out.new)) (readJob job.now) }
-    ensures read_back { result ≡ 0 → OfAccepted (λ j. ReadsBack j (take bytes.new out.new)) (readJob job.now) }
-    ensures one_text { result ≡ 0 → OfAccepted (λ j. OneText j (take bytes.new out.new)) (readJob job.now) }
-    ensures again { result ≡ 0 → OfAccepted (λ j. FixedAgain (take bytes.new out.new)) (readJob job.now) }
+    ensures buffer { out.new ≡ buffer_after house_text (read_job job.now) out.old }
+    ensures fixed { result ≡ 0 → OfAccepted (λ j. IsFixed j (take bytes.new out.new)) (read_job job.now) }
+    ensures read_back { result ≡ 0 → OfAccepted (λ j. ReadsBack j (take bytes.new out.new)) (read_job job.now) }
+    ensures one_text { result ≡ 0 → OfAccepted (λ j. OneText j (take bytes.new out.new)) (read_job job.now) }
+    ensures again { result ≡ 0 → OfAccepted (λ j. FixedAgain (take bytes.new out.new)) (read_job job.now) }
 {
     let fixed = housestyle::house(job, out);
     *line = answers::answer_line(fixed);
@@ -67,7 +67,7 @@ pub extern "C" fn hankuribo_house(
 
 // A yes or no as a number.
 fn one_if(yes: bool) -> usize
-    ensures { result ≡ oneIf yes }
+    ensures { result ≡ one_if yes }
 {
     if yes {
         return 1;
@@ -85,7 +85,7 @@ pub extern "C" fn hankuribo_check(
     line: &mut usize,
     broken: &mut usize,
 ) -> usize
-    ensures answer { CheckRepliesWith (checkAnswer (readJob job.now) layout.now) result line.new broken.new }
+    ensures answer { CheckRepliesWith (check_answer (read_job job.now) layout.now) result line.new broken.new }
     ensures right { (a : CheckAnswer) × (CheckRepliesWith a result line.new broken.new × RightVerdict job.now layout.now a) }
 {
     let answer = checker::check(job, layout);
@@ -96,8 +96,8 @@ pub extern "C" fn hankuribo_check(
 
 // The sums of all tracks, added up.
 fn add_up(sums: &[usize; 128]) -> usize
-    requires { addedUp sums.now ≤ 524288 }
-    ensures { result ≡ addedUp sums.now }
+    requires { added_up sums.now ≤ 524288 }
+    ensures { result ≡ added_up sums.now }
 {
     let mut total = 0;
     for i in 0..128 {
@@ -109,7 +109,7 @@ fn add_up(sums: &[usize; 128]) -> usize
 // Reads a job: the number of its refusal, 0 where it is accepted.
 #[unsafe(no_mangle)]
 pub extern "C" fn hankuribo_read(text: &[u8]) -> usize
-    ensures answer { result ≡ refusalOf (readJob text.now) }
+    ensures answer { result ≡ refusal_of (read_job text.now) }
 {
     let answer = reader::read(text);
     let outcome = answer.outcome;
@@ -119,7 +119,7 @@ pub extern "C" fn hankuribo_read(text: &[u8]) -> usize
 // Reads a job and plans it: the sums of all its tracks, added up; 0 where it is refused.
 #[unsafe(no_mangle)]
 pub extern "C" fn hankuribo_plan(text: &[u8]) -> usize
-    ensures answer { result ≡ planSum (readJob text.now) }
+    ensures answer { result ≡ plan_sum (read_job text.now) }
 {
     let answer = reader::read(text);
     let found = answer.outcome;

@@ -5,10 +5,10 @@ use mathlib.Core.List.{List, ◌++◌}
 use lib.ListN.{length, take}
 use lib.Seq.{length-take-le, take-append-add}
 use borrow.Rule.Slice.PartMut.{put_mid}
-use Rattle.text.proofs.Writing.{back-rest}
+use Rattle.text.proofs.Writing.{back_rest}
 
 -- a read into the rest of a buffer keeps what stands before that rest, and its bytes follow
-pub read-more : (p n : ℕ) (s ys : List ℕ) → p ≤ length s → take (p + n) (put_mid p (length s - p) s ys) ≡ take p s ++ take n ys
-read-more p n s ys h =
+pub read_more : (p n : ℕ) (s ys : List ℕ) → p ≤ length s → take (p + n) (put_mid p (length s - p) s ys) ≡ take p s ++ take n ys
+read_more p n s ys h =
     let e : length (take p s) ≡ p = length-take-le p s h in
-    ap (take (p + n)) (back-rest p s ys) ∙ ap (λ (k : ℕ). take (k + n) (take p s ++ ys)) (sym e) ∙ take-append-add (take p s) ys n
+    ap (take (p + n)) (back_rest p s ys) ∙ ap (λ (k : ℕ). take (k + n) (take p s ++ ys)) (sym e) ∙ take-append-add (take p s) ys n

@@ -11,24 +11,24 @@ use Rattle.files.specs.Given.{FirstGiven}
 use Rattle.files.specs.FileTexts.{text_of, ReadText}
 
 -- nothing is read of what could not be opened
-pub unopened-is : (F : Type 0) {E : Type 0} (e : E) (r : ℕ) → EmptyUnopened {F = F} (Err e) r → r ≡ 0
-unopened-is F e r h = h
+pub unopened_is : (F : Type 0) {E : Type 0} (e : E) (r : ℕ) → EmptyUnopened {F = F} (Err e) r → r ≡ 0
+unopened_is F e r h = h
 
 -- the text of a reader whose bytes are known is the first of them, as many as were read
-pub given-is : {F : Type 0} (E : Type 0) (remaining : F → Option (List ℕ)) (file : F) (xs : List ℕ) (t : FileText) → remaining file ≡ Some xs
+pub given_is : {F : Type 0} (E : Type 0) (remaining : F → Option (List ℕ)) (file : F) (xs : List ℕ) (t : FileText) → remaining file ≡ Some xs
     → FirstGiven {F = F} {E = E} remaining (Ok file) (text_of t) → take (length (text_of t)) xs ≡ text_of t
-given-is E remaining file xs t e h = subst (λ (known : Option (List ℕ)). IfSome known (λ ys. StartsWith ys (text_of t))) e h
+given_is E remaining file xs t e h = subst (λ (known : Option (List ℕ)). IfSome known (λ ys. StartsWith ys (text_of t))) e h
 
 -- the text is the first bytes of the buffer, as many as were read
-pub text-is : (t : FileText) → text_of t ≡ take t.used t.bytes
+pub text_is : (t : FileText) → text_of t ≡ take t.used t.bytes
 unfolding text_of
-text-is t = refl
+text_is t = refl
 
 module _ (t : FileText) (h : ReadText t) where
   -- as many bytes were read as the text has
-  pub used-is : t.used ≡ length (text_of t)
-  used-is = h.written.used
+  pub used_is : t.used ≡ length (text_of t)
+  used_is = h.written.used
 
   -- the buffer is the text and then bytes 0, 64,001 in all
-  pub bytes-is : t.bytes ≡ text_of t ++ drop (length (text_of t)) (replicate 64001 0)
-  bytes-is = h.written.bytes
+  pub bytes_is : t.bytes ≡ text_of t ++ drop (length (text_of t)) (replicate 64001 0)
+  bytes_is = h.written.bytes

@@ -3,9 +3,9 @@
 #![tactic(auto)]
 
 ghost use Rattle.std.specs.Prelude.{◌≡◌, ◌≤◌, length, take, drop};
-ghost use Rattle.lines.specs.Tokens.{lineWords};
-ghost use Rattle.jobfile.specs.Forms.{no_word, ifLast, formMade, formAfter, formOpened, readForm};
-ghost use Rattle.forms.specs.Arguments.{argumentAt, onlyClosing, ArgumentsAre};
+ghost use Rattle.lines.specs.Tokens.{line_words};
+ghost use Rattle.jobfile.specs.Forms.{no_word, if_last, form_made, form_after, form_opened, read_form};
+ghost use Rattle.forms.specs.Arguments.{argument_at, only_closing, ArgumentsAre};
 
 use jobfile::{Form, Optional};
 use keywords::Vocabulary;
@@ -34,7 +34,7 @@ const COUNTS: [usize; 5] = [0, 1, 1, 5, 3];
 // Whether no token is left.
 fn at_end(s: &[u8], at: usize) -> bool
     requires { at ≤ length s.now }
-    ensures { result ≡ no_word (lineWords (drop at s.now)) }
+    ensures { result ≡ no_word (line_words (drop at s.now)) }
 {
     match lines::read_token(s, at) {
         Token::Nothing => true,
@@ -47,7 +47,7 @@ fn at_end(s: &[u8], at: usize) -> bool
 // The form where no token is left, and none of the forms otherwise.
 fn if_last(s: &[u8], at: usize, form: Form) -> Form
     requires { at ≤ length s.now }
-    ensures { result ≡ ifLast (lineWords (drop at s.now)) form }
+    ensures { result ≡ if_last (line_words (drop at s.now)) form }
 {
     if at_end(s, at) {
         return form;
@@ -58,7 +58,7 @@ fn if_last(s: &[u8], at: usize, form: Form) -> Form
 // The number or the closing bracket at a place.
 fn read_argument(s: &[u8], at: usize) -> Argument
     requires { at ≤ length s.now }
-    ensures { result ≡ argumentAt s.now at }
+    ensures { result ≡ argument_at s.now at }
 {
     match lines::read_token(s, at) {
         Token::Word { from, to } => match text::read_number(&s[from..to], 5) {
@@ -74,7 +74,7 @@ fn read_argument(s: &[u8], at: usize) -> Argument
 // Whether a closing bracket is the last token.
 fn is_closed(s: &[u8], at: usize) -> bool
     requires { at ≤ length s.now }
-    ensures { result ≡ onlyClosing (lineWords (drop at s.now)) }
+    ensures { result ≡ only_closing (line_words (drop at s.now)) }
 {
     match lines::read_token(s, at) {
         Token::Shut(next) => at_end(s, next),
@@ -87,7 +87,7 @@ fn is_closed(s: &[u8], at: usize) -> bool
 // The numbers from a place on, six at most, and whether the closing bracket stands behind them.
 fn read_arguments(s: &[u8], at: usize) -> Arguments
     requires { at ≤ length s.now }
-    ensures { ArgumentsAre (lineWords (drop at s.now)) result }
+    ensures { ArgumentsAre (line_words (drop at s.now)) result }
 {
     let mut numbers = [0usize; 6];
     let mut p = at;
@@ -125,7 +125,7 @@ fn read_arguments(s: &[u8], at: usize) -> Arguments
 // The form that keyword i makes of so many numbers.
 fn make_form(i: usize, count: usize, n: [usize; 6]) -> Form
     requires { (1 ≤ i) × (i ≤ 4) × (count ≤ 6) }
-    ensures { result ≡ formMade i (take count n) }
+    ensures { result ≡ form_made i (take count n) }
 {
     if (i == 3) & (count == 6) {
         return Form::Net(n[0], n[1], n[2], n[3], n[4], Optional::Written(n[5]));
@@ -145,7 +145,7 @@ fn make_form(i: usize, count: usize, n: [usize; 6]) -> Form
 // The form of what stands behind keyword i.
 fn form_after(s: &[u8], at: usize, i: usize) -> Form
     requires { at ≤ length s.now }
-    ensures { result ≡ formAfter i (lineWords (drop at s.now)) }
+    ensures { result ≡ form_after i (line_words (drop at s.now)) }
 {
     if i == 0 {
         return if_last(s, at, Form::Board);
@@ -164,7 +164,7 @@ fn form_after(s: &[u8], at: usize, i: usize) -> Form
 // The form of what stands behind an opening bracket.
 fn form_opened(s: &[u8], at: usize) -> Form
     requires { at ≤ length s.now }
-    ensures { result ≡ formOpened (lineWords (drop at s.now)) }
+    ensures { result ≡ form_opened (line_words (drop at s.now)) }
 {
     match lines::read_token(s, at) {
         Token::Word { from, to } => {
@@ -179,7 +179,7 @@ fn form_opened(s: &[u8], at: usize) -> Form
 
 // The form that a line is.
 pub fn read_form(s: &[u8]) -> Form
-    ensures { result ≡ readForm s.now }
+    ensures { result ≡ read_form s.now }
 {
     match lines::read_token(s, 0) {
         Token::Nothing => Form::Blank,

@@ -5,9 +5,9 @@ ghost use Rattle.std.specs.Prelude.{◌*◌, ◌≡◌, false, [], ℕ, ◌+◌,
 ghost use Rattle.board.specs.declared.Board.{Board};
 ghost use Rattle.board.specs.Stored.{job_of, AcceptedStored};
 ghost use Rattle.blockmap.specs.Bits.{is_set};
-ghost use Rattle.blockmap.specs.Clear.{allUnset, flagTops};
-ghost use Rattle.candidates.specs.Placed.{precedingOf};
-ghost use Rattle.candidates.specs.Gathered.{arraysOf, onPart, GatheredFrom};
+ghost use Rattle.blockmap.specs.Clear.{all_unset, flag_tops};
+ghost use Rattle.candidates.specs.Placed.{preceding_of};
+ghost use Rattle.candidates.specs.Gathered.{arrays_of, on_part, GatheredFrom};
 
 use blockmap::BlockMap;
 use board::{Net, StoredJob, Track};
@@ -20,7 +20,7 @@ fn flag_part(map: BlockMap, any: bool, tops: NetTops, i: usize, flags: &mut [u8]
     requires row_value { any ≡ false → (row : ℕ) → is_set map.words row ≡ false }
     requires le_first { (1 ≤ tops.first.0) × (tops.first.0 ≤ tops.last.0) × (1 ≤ tops.need) × (tops.last.0 + tops.need ≤ 1025) }
     requires i_bound { i * 1088 + 1024 ≤ length flags.old }
-    ensures { flags.new ≡ onPart i (flagTops (λ top. allUnset map.words top tops.need) tops.first.0 (tops.last.0 + 1 - tops.first.0)) flags.old }
+    ensures { flags.new ≡ on_part i (flag_tops (λ top. all_unset map.words top tops.need) tops.first.0 (tops.last.0 + 1 - tops.first.0)) flags.old }
 {
     let from = i * 1088;
     let to = from + 1024;
@@ -33,7 +33,7 @@ fn flag_part(map: BlockMap, any: bool, tops: NetTops, i: usize, flags: &mut [u8]
 
 // No candidate.
 fn no_candidates() -> Candidates
-    ensures { (board : Board) → result ≡ arraysOf board [] }
+    ensures { (board : Board) → result ≡ arrays_of board [] }
 {
     let zeros = [0usize; 512];
     Candidates {
@@ -56,7 +56,7 @@ pub fn gather(
     flags: &mut [u8],
 ) -> Candidates
     requires accepted_stored { AcceptedStored job.now }
-    requires before_value { before.now ≡ precedingOf (job_of job.now) }
+    requires before_value { before.now ≡ preceding_of (job_of job.now) }
     requires in_bounds { job.now.nnets * 1088 ≤ length flags.old }
     ensures { GatheredFrom (job_of job.now) placed.now track.0 flags.old result flags.new }
 {

@@ -2,34 +2,34 @@
 use mathlib.Core.Path.{◌≡◌, refl}
 use Rattle.board.specs.Job.{Job}
 use Rattle.board.specs.Accepted.{AcceptedJob}
-use Rattle.house.specs.Blocks.{sortBlocks}
-use Rattle.house.specs.HouseText.{houseLines, houseText, houseJob}
+use Rattle.house.specs.Blocks.{sort_blocks}
+use Rattle.house.specs.HouseText.{house_lines, house_text, house_job}
 use Rattle.house.specs.Promises.{ReadsBack, OneText, FixedAgain}
-use Rattle.house.proofs.BlockTimes.{sorted-times}
-use Rattle.house.proofs.BlockOrder.{sorted, sorted-moved, sort-same}
-use Rattle.house.proofs.HouseRead.{house-read, one-text}
+use Rattle.house.proofs.BlockTimes.{sorted_times}
+use Rattle.house.proofs.BlockOrder.{sorted, sorted_moved, sort_same}
+use Rattle.house.proofs.HouseRead.{house_read, one_text}
 
 -- the job that is read back has the same text
-again : (job : Job) → houseText job ≡ houseText (houseJob job)
-unfolding houseText houseLines
-again job = rw (sort-same (sortBlocks job.blocks) job.blocks (sorted-times job.blocks))
+again : (job : Job) → house_text job ≡ house_text (house_job job)
+unfolding house_text house_lines
+again job = rw (sort_same (sort_blocks job.blocks) job.blocks (sorted_times job.blocks))
 
 module _ (job : Job) (a : AcceptedJob job) where
-  pub house-back : ReadsBack job (houseText job)
-  house-back =
+  pub house_back : ReadsBack job (house_text job)
+  house_back =
       record {
-        back = houseJob job;
-        read_as = house-read job a;
-        board-same = refl;
-        nets-same = refl;
-        nets-rise = a.numbers-rise;
-        blocks-sorted = sorted job.blocks;
-        blocks-often = sorted-times job.blocks;
-        blocks-moved = sorted-moved job.blocks;
+        back = house_job job;
+        read_as = house_read job a;
+        board_same = refl;
+        nets_same = refl;
+        nets_rise = a.numbers_rise;
+        blocks_sorted = sorted job.blocks;
+        blocks_often = sorted_times job.blocks;
+        blocks_moved = sorted_moved job.blocks;
       }
 
-  pub house-one : OneText job (houseText job)
-  house-one other b = one-text job other a b
+  pub house_one : OneText job (house_text job)
+  house_one other b = one_text job other a b
 
-  pub house-again : FixedAgain (houseText job)
-  house-again = (houseJob job, (house-read job a, again job))
+  pub house_again : FixedAgain (house_text job)
+  house_again = (house_job job, (house_read job a, again job))

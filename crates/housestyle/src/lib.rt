@@ -2,24 +2,24 @@
 #![tactic(auto)]
 
 ghost use Rattle.std.specs.Prelude.{◌≡◌, length};
-ghost use Rattle.jobfile.specs.Read.{readJob};
-ghost use Rattle.house.specs.HouseText.{houseText};
+ghost use Rattle.jobfile.specs.Read.{read_job};
+ghost use Rattle.house.specs.HouseText.{house_text};
 ghost use Rattle.house.specs.Promises.{IsFixed, FixedLength, ReadsBack, OneText, FixedAgain};
-ghost use Rattle.answers.specs.Answers.{answerValues, documentValues, textAnswer, RightFor, bufferAfter, OfWritten};
+ghost use Rattle.answers.specs.Answers.{answer_values, document_values, text_answer, RightFor, buffer_after, OfWritten};
 
 use answers::TextAnswer;
 
 // Writes the fixed text of a job into a buffer. It is written into a buffer of its own first, which every fixed text fits, so that its
 // length is known before a byte of the lent one is written; then it is copied there.
 pub fn house(job: &[u8], out: &mut [u8]) -> TextAnswer
-    ensures answer { result ≡ textAnswer houseText (readJob job.now) (length out.old) }
-    ensures values { answerValues result ≡ documentValues houseText (readJob job.now) (length out.old) }
+    ensures answer { result ≡ text_answer house_text (read_job job.now) (length out.old) }
+    ensures values { answer_values result ≡ document_values house_text (read_job job.now) (length out.old) }
     ensures right { RightFor FixedLength job.now (length out.old) result }
-    ensures buffer { out.new ≡ bufferAfter houseText (readJob job.now) out.old }
-    ensures fixed { OfWritten IsFixed (readJob job.now) result out.new }
-    ensures read_back { OfWritten ReadsBack (readJob job.now) result out.new }
-    ensures one_text { OfWritten OneText (readJob job.now) result out.new }
-    ensures again { OfWritten (λ j text. FixedAgain text) (readJob job.now) result out.new }
+    ensures buffer { out.new ≡ buffer_after house_text (read_job job.now) out.old }
+    ensures fixed { OfWritten IsFixed (read_job job.now) result out.new }
+    ensures read_back { OfWritten ReadsBack (read_job job.now) result out.new }
+    ensures one_text { OfWritten OneText (read_job job.now) result out.new }
+    ensures again { OfWritten (λ j text. FixedAgain text) (read_job job.now) result out.new }
 {
     let answer = reader::read(job);
     let outcome = answer.outcome;

@@ -1,22 +1,22 @@
 -- The fixed text of a job in the parts that are written one after another.
 use Rattle.std.specs.Prelude.{ℕ, List, [], ◌∷◌, ◌++◌}
-use Rattle.keywords.specs.Keywords.{boardWord, rowsWord, tracksWord}
+use Rattle.keywords.specs.Keywords.{board_word, rows_word, tracks_word}
 use Rattle.board.specs.declared.Board.{Board}
 use Rattle.board.specs.declared.Net.{Net}
 use Rattle.board.specs.declared.Block.{Block}
-use Rattle.house.specs.HouseText.{openingLine, innerLine, netLine, block_line}
+use Rattle.house.specs.HouseText.{opening_line, inner_line, net_line, block_line}
 use Rattle.joblines.specs.Lines.{ended}
 
 -- the lines of the board
 unfoldable pub top_text : Board → List ℕ
-top_text board = ended (openingLine boardWord) ++ (ended (innerLine rowsWord (board.rows ∷ [])) ++ ended (innerLine tracksWord (board.tracks ∷ [])))
+top_text board = ended (opening_line board_word) ++ (ended (inner_line rows_word (board.rows ∷ [])) ++ ended (inner_line tracks_word (board.tracks ∷ [])))
 
 -- the lines of nets
-unfoldable pub netsText : Board → List Net → List ℕ
-netsText board [] = []
-netsText board (n ∷ ns) = ended (netLine board n) ++ netsText board ns
+unfoldable pub nets_text : Board → List Net → List ℕ
+nets_text board [] = []
+nets_text board (n ∷ ns) = ended (net_line board n) ++ nets_text board ns
 
 -- the lines of blocks
-unfoldable pub blocksText : List Block → List ℕ
-blocksText [] = []
-blocksText (b ∷ bs) = ended (block_line b) ++ blocksText bs
+unfoldable pub blocks_text : List Block → List ℕ
+blocks_text [] = []
+blocks_text (b ∷ bs) = ended (block_line b) ++ blocks_text bs

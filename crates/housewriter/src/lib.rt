@@ -4,10 +4,10 @@
 ghost use Rattle.std.specs.Prelude.{map, ◌+◌, ◌≤◌, length, take};
 ghost use Rattle.text.specs.Written.{Written, WrittenAt};
 ghost use Rattle.board.specs.Stored.{job_of, AcceptedStored};
-ghost use Rattle.house.specs.Blocks.{sortBlocks};
-ghost use Rattle.house.specs.HouseText.{houseText};
-ghost use Rattle.blocksort.specs.Keys.{keyBlock};
-ghost use Rattle.housewriter.specs.Parts.{top_text, netsText, blocksText};
+ghost use Rattle.house.specs.Blocks.{sort_blocks};
+ghost use Rattle.house.specs.HouseText.{house_text};
+ghost use Rattle.blocksort.specs.Keys.{key_block};
+ghost use Rattle.housewriter.specs.Parts.{top_text, nets_text, blocks_text};
 
 use board::{Board, StoredJob};
 use keywords::Vocabulary;
@@ -25,8 +25,8 @@ fn put_top(out: &mut [u8], board: Board) -> usize
 // Writes the lines of the nets, in their order, which is by rising number.
 fn put_nets(out: &mut [u8], at: usize, job: &StoredJob) -> usize
     requires accepted_stored { AcceptedStored job.now }
-    requires job_in_bounds { at + length (netsText job.now.board (job_of job.now).nets) ≤ length out.old }
-    ensures { WrittenAt at (netsText job.now.board (job_of job.now).nets) out.old out.new result }
+    requires job_in_bounds { at + length (nets_text job.now.board (job_of job.now).nets) ≤ length out.old }
+    ensures { WrittenAt at (nets_text job.now.board (job_of job.now).nets) out.old out.new result }
 {
     let mut next = at;
     for i in 0..job.nnets {
@@ -38,8 +38,8 @@ fn put_nets(out: &mut [u8], at: usize, job: &StoredJob) -> usize
 // Writes the lines of the blocks whose keys are the first `count`.
 fn put_keys(out: &mut [u8], at: usize, keys: &[usize], count: usize) -> usize
     requires count_in_bounds { count ≤ length keys.now }
-    requires keys_in_bounds { at + length (blocksText (map keyBlock (take count keys.now))) ≤ length out.old }
-    ensures { WrittenAt at (blocksText (map keyBlock (take count keys.now))) out.old out.new result }
+    requires keys_in_bounds { at + length (blocks_text (map key_block (take count keys.now))) ≤ length out.old }
+    ensures { WrittenAt at (blocks_text (map key_block (take count keys.now))) out.old out.new result }
 {
     let mut next = at;
     for i in 0..count {
@@ -53,8 +53,8 @@ fn put_keys(out: &mut [u8], at: usize, keys: &[usize], count: usize) -> usize
 // Writes the lines of the blocks, by track, A and B.
 fn put_blocks(out: &mut [u8], at: usize, job: &StoredJob) -> usize
     requires accepted_stored { AcceptedStored job.now }
-    requires job_in_bounds { at + length (blocksText (sortBlocks (job_of job.now).blocks)) ≤ length out.old }
-    ensures { WrittenAt at (blocksText (sortBlocks (job_of job.now).blocks)) out.old out.new result }
+    requires job_in_bounds { at + length (blocks_text (sort_blocks (job_of job.now).blocks)) ≤ length out.old }
+    ensures { WrittenAt at (blocks_text (sort_blocks (job_of job.now).blocks)) out.old out.new result }
 {
     let mut keys = [0usize; 256];
     blocksort::sort_keys(job, &mut keys);
@@ -64,8 +64,8 @@ fn put_blocks(out: &mut [u8], at: usize, job: &StoredJob) -> usize
 // Writes the fixed text of a job at the start of out, and returns its length.
 pub fn write_house(job: &StoredJob, out: &mut [u8]) -> usize
     requires accepted_stored { AcceptedStored job.now }
-    requires job_in_bounds { length (houseText (job_of job.now)) ≤ length out.old }
-    ensures { Written (houseText (job_of job.now)) out.old out.new result }
+    requires job_in_bounds { length (house_text (job_of job.now)) ≤ length out.old }
+    ensures { Written (house_text (job_of job.now)) out.old out.new result }
 {
     let a = put_top(out, job.board);
     let b = put_nets(out, a, job);

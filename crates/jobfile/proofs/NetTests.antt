@@ -12,25 +12,25 @@ use Rattle.board.specs.Job.{Job}
 use Rattle.board.specs.Length.{length_of, shortest, needed}
 use Rattle.jobfile.specs.declared.Optional.{Optional}
 use Rattle.jobfile.specs.declared.Outcome.TheVariants.{OutOfRange, TooMany, NumberNotAbove, PinUsed, SameRow, NoLength, TooFewRows}
-use Rattle.jobfile.specs.Read.{State, go, netInRange, pinsFree, testNet}
+use Rattle.jobfile.specs.Read.{State, go, net_in_range, pins_free, test_net}
 use Rattle.jobfile.proofs.TestOrder.{LineTest, test, tested, Rising}
 
 module _ (job : Job) (n : Net) (w : Optional) (k : ℕ) (numbered : Bool) where
   -- refusals 3 to 9, in this order
-  abbrev pub netTests : List LineTest
-  netTests =
-      test (netInRange job.board n w) (OutOfRange k) ∷
+  abbrev pub net_tests : List LineTest
+  net_tests =
+      test (net_in_range job.board n w) (OutOfRange k) ∷
       test (ltb (length job.nets) 512) (TooMany k) ∷
       test numbered (NumberNotAbove k) ∷
-      test (all_of (pinsFree n) job.nets) (PinUsed k) ∷
+      test (all_of (pins_free n) job.nets) (PinUsed k) ∷
       test (not (eqb n.left.0 n.right.0)) (SameRow k) ∷
       test (leb (length_of job.board n (shortest job.board n)) n.max) (NoLength k) ∷
       test (leb (needed job.board n) job.board.rows) (TooFewRows k) ∷
       []
 
-  pub net-tested : (s : State) → testNet k numbered n w job s ≡ tested netTests (go s)
-  unfolding testNet
-  net-tested s = refl
+  pub net_tested : (s : State) → test_net k numbered n w job s ≡ tested net_tests (go s)
+  unfolding test_net
+  net_tested s = refl
 
-  pub net-rising : Rising netTests
-  net-rising = omega arith
+  pub net_rising : Rising net_tests
+  net_rising = omega arith

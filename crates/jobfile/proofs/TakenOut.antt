@@ -3,5 +3,5 @@ use Rattle.board.specs.Job.{Job}
 use Rattle.jobfile.specs.Read.{accepted}
 use Rattle.jobfile.specs.OfAccepted.{OfAccepted}
 
-pub accepted-is : (P : Job → Type 0) (job : Job) → OfAccepted P (accepted job) → P job
-accepted-is P job h = h
+pub accepted_is : (P : Job → Type 0) (job : Job) → OfAccepted P (accepted job) → P job
+accepted_is P job h = h

@@ -7,7 +7,7 @@ use mathlib.Core.List.Memᴰ
 use mathlib.Core.List.{List, [], ◌∷◌, map, Memᴰ}
 use native.Mathlib.Omega.{arith}
 use Rattle.lists.specs.Lists.{Each, EachPair}
-use Rattle.lists.proofs.Cases.{by-test}
+use Rattle.lists.proofs.Cases.{by_test}
 use Rattle.jobfile.specs.declared.Outcome.{Outcome}
 use Rattle.jobfile.specs.Read.{State, Next, go, stop, unless}
 use Rattle.jobfile.specs.Answers.{number_of}
@@ -22,10 +22,10 @@ abbrev pub Judged : (Outcome → Type 0) → (State → Type 0) → Next → Typ
 Judged F G (go s) = G s × ((o : Outcome) → F o → ⊥)
 Judged F G (stop o) = Least F o
 
-pub judged-same : (F H : Outcome → Type 0) (G : State → Type 0) (x : Next) → ((o : Outcome) → F o → H o) →
+pub judged_same : (F H : Outcome → Type 0) (G : State → Type 0) (x : Next) → ((o : Outcome) → F o → H o) →
     ((o : Outcome) → H o → F o) → Judged F G x → Judged H G x
-judged-same F H G (go s) f h j = (j.0, λ o p. j.1 o (h o p))
-judged-same F H G (stop o) f h j = record { fault = f o j.fault; least = λ p q. j.least p (h p q) }
+judged_same F H G (go s) f h j = (j.0, λ o p. j.1 o (h o p))
+judged_same F H G (stop o) f h j = record { fault = f o j.fault; least = λ p q. j.least p (h p q) }
 
 -- a test of a line, and what the text is refused for where it fails
 pub record LineTest : Type 0 where
@@ -59,24 +59,24 @@ abbrev pub outcomes : List LineTest → List Outcome
 outcomes ts = map (λ t. t.otherwise) ts
 
 -- where they rise, a fault of a later test has a larger number
-later-number : (t : LineTest) (ts : List LineTest) (p : Outcome) → Each (λ u. number_of t.otherwise < number_of u.otherwise) ts →
+later_number : (t : LineTest) (ts : List LineTest) (p : Outcome) → Each (λ u. number_of t.otherwise < number_of u.otherwise) ts →
     Memᴰ p (outcomes ts) → number_of t.otherwise ≤ number_of p
-later-number t [] p a m = absurd (Memᴰ.not-nil m)
-later-number t (u ∷ ts) p a m =
+later_number t [] p a m = absurd (Memᴰ.not-nil m)
+later_number t (u ∷ ts) p a m =
     ⊎_elim
     (λ (q : p ≡ u.otherwise). omega (arith, a.0, ap number_of q))
-    (λ i. later-number t ts p a.1 i)
+    (λ i. later_number t ts p a.1 i)
     (Memᴰ.cases_cons m)
 
 module _ (F : Outcome → Type 0) (G : State → Type 0) (s : State) (good : G s) where
   -- tests that rise and stand for all the faults of a line
-  pub tested-judged : (ts : List LineTest) → Rising ts → Standing F ts → ((o : Outcome) → F o → Memᴰ o (outcomes ts)) →
+  pub tested_judged : (ts : List LineTest) → Rising ts → Standing F ts → ((o : Outcome) → F o → Memᴰ o (outcomes ts)) →
       Judged F G (tested ts (go s))
   unfolding unless
-  tested-judged [] r a c = (good, λ o f. Memᴰ.not-nil (c o f))
-  tested-judged (t ∷ ts) r a c =
-      let rest = tested-judged ts r.1 in
-      by-test t.passed
+  tested_judged [] r a c = (good, λ o f. Memᴰ.not-nil (c o f))
+  tested_judged (t ∷ ts) r a c =
+      let rest = tested_judged ts r.1 in
+      by_test t.passed
       (λ e. rw e (rest (a.1 e) (λ o f. ⊎_elim
       (λ (q : o ≡ t.otherwise). absurd (a.0.passes e (rw q at f)))
       (λ m. m)
@@ -85,6 +85,6 @@ module _ (F : Outcome → Type 0) (G : State → Type 0) (s : State) (good : G s
         fault = a.0.fails e;
         least = λ p f. ⊎_elim
             (λ (q : p ≡ t.otherwise). omega (arith, ap number_of q))
-            (λ m. later-number t ts p r.0 m)
+            (λ m. later_number t ts p r.0 m)
             (Memᴰ.cases_cons (c p f));
       }))

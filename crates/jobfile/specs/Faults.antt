@@ -15,49 +15,49 @@ use Rattle.jobfile.specs.declared.Form.{Form}
 use Rattle.jobfile.specs.declared.Form.TheVariants as Is
 use Rattle.jobfile.specs.declared.Outcome.{Outcome}
 use Rattle.jobfile.specs.declared.Outcome.TheVariants.{TooLong, NotOfForm, OutOfRange, TooMany, NumberNotAbove, PinUsed, SameRow, NoLength, TooFewRows}
-use Rattle.jobfile.specs.Forms.{readForm}
-use Rattle.jobfile.specs.Read.{netGiven, block_of, boardOf, withNet, withBlock}
-use Rattle.jobfile.specs.Answers.{number_of, line_of, noJob}
+use Rattle.jobfile.specs.Forms.{read_form}
+use Rattle.jobfile.specs.Read.{net_given, block_of, board_of, with_net, with_block}
+use Rattle.jobfile.specs.Answers.{number_of, line_of, no_job}
 
 -- the forms of the lines of a text
-abbrev pub formsOf : List ℕ → List Form
-formsOf text = map readForm (lines text)
+abbrev pub forms_of : List ℕ → List Form
+forms_of text = map read_form (lines text)
 
 -- the job with one form more, wherever its line stands: H, K, a net or a block
-unfoldable pub withForm : Job → Form → Job
-withForm job Is.Blank = job
-withForm job Is.Board = job
-withForm job (Is.Rows h) = record { board = boardOf h job.board.tracks; nets = job.nets; blocks = job.blocks }
-withForm job (Is.Tracks k) = record { board = boardOf job.board.rows k; nets = job.nets; blocks = job.blocks }
-withForm job (Is.Net i l r lo hi w) = withNet job (netGiven job.board i l r lo hi w)
-withForm job (Is.Block t a b) = withBlock job (block_of t a b)
-withForm job Is.Close = job
-withForm job Is.Other = job
+unfoldable pub with_form : Job → Form → Job
+with_form job Is.Blank = job
+with_form job Is.Board = job
+with_form job (Is.Rows h) = record { board = board_of h job.board.tracks; nets = job.nets; blocks = job.blocks }
+with_form job (Is.Tracks k) = record { board = board_of job.board.rows k; nets = job.nets; blocks = job.blocks }
+with_form job (Is.Net i l r lo hi w) = with_net job (net_given job.board i l r lo hi w)
+with_form job (Is.Block t a b) = with_block job (block_of t a b)
+with_form job Is.Close = job
+with_form job Is.Other = job
 
 -- the job after further lines
-unfoldable pub jobFrom : Job → List Form → Job
-jobFrom job [] = job
-jobFrom job (f ∷ fs) = jobFrom (withForm job f) fs
+unfoldable pub job_from : Job → List Form → Job
+job_from job [] = job
+job_from job (f ∷ fs) = job_from (with_form job f) fs
 
 -- the job that the lines of a text hold
-abbrev pub jobIn : List Form → Job
-jobIn fs = jobFrom noJob fs
+abbrev pub job_in : List Form → Job
+job_in fs = job_from no_job fs
 
 -- the form is that of a blank line
-abbrev pub isBlank : Form → Bool
-isBlank Is.Blank = true
-isBlank Is.Board = false
-isBlank (Is.Rows h) = false
-isBlank (Is.Tracks k) = false
-isBlank (Is.Net i l r lo hi w) = false
-isBlank (Is.Block t a b) = false
-isBlank Is.Close = false
-isBlank Is.Other = false
+abbrev pub is_blank : Form → Bool
+is_blank Is.Blank = true
+is_blank Is.Board = false
+is_blank (Is.Rows h) = false
+is_blank (Is.Tracks k) = false
+is_blank (Is.Net i l r lo hi w) = false
+is_blank (Is.Block t a b) = false
+is_blank Is.Close = false
+is_blank Is.Other = false
 
 -- the lines that are not blank
-unfoldable pub nonBlank : List Form → List Form
-nonBlank [] = []
-nonBlank (f ∷ fs) = let rest = nonBlank fs in cond (isBlank f) rest (f ∷ rest)
+unfoldable pub non_blank : List Form → List Form
+non_blank [] = []
+non_blank (f ∷ fs) = let rest = non_blank fs in cond (is_blank f) rest (f ∷ rest)
 
 -- the form is a net or a block
 pub data Item : Form → Type 0 where
@@ -69,15 +69,15 @@ pub record Ordered (last fs : List Form) : Type 0 where
   pub rows : ℕ
   pub tracks : ℕ
   pub items : List Form
-  pub lines_are : nonBlank fs ≡ Is.Board ∷ Is.Rows rows ∷ Is.Tracks tracks ∷ (items ++ last)
-  pub items-are : Each Item items
+  pub lines_are : non_blank fs ≡ Is.Board ∷ Is.Rows rows ∷ Is.Tracks tracks ∷ (items ++ last)
+  pub items_are : Each Item items
 
 -- a line of this form may stand below the lines fs
 abbrev pub MayFollow : List Form → Form → Type 0
 MayFollow fs Is.Blank = Unit {0}
-MayFollow fs Is.Board = nonBlank fs ≡ []
-MayFollow fs (Is.Rows h) = nonBlank fs ≡ Is.Board ∷ []
-MayFollow fs (Is.Tracks k) = (h : ℕ) × (nonBlank fs ≡ Is.Board ∷ Is.Rows h ∷ [])
+MayFollow fs Is.Board = non_blank fs ≡ []
+MayFollow fs (Is.Rows h) = non_blank fs ≡ Is.Board ∷ []
+MayFollow fs (Is.Tracks k) = (h : ℕ) × (non_blank fs ≡ Is.Board ∷ Is.Rows h ∷ [])
 MayFollow fs (Is.Net i l r lo hi w) = Ordered [] fs
 MayFollow fs (Is.Block t a b) = Ordered [] fs
 MayFollow fs Is.Close = Ordered [] fs
@@ -91,48 +91,48 @@ WeightInRange (Written w) = (1 ≤ w) × (w ≤ 999)
 -- the faults of net n with the weight w that is given, at line k, where `job` is what stands above. `Misnumbered` is what number 5 turns away,
 -- which depends on how the net comes
 pub data NetFault (Misnumbered : Type 0) (job : Job) (n : Net) (w : Optional) (k : ℕ) : Outcome → Type 0 where
-  net-range : (NetInRange job.board n → ⊥) → NetFault Misnumbered job n w k (OutOfRange k)
-  weight-range : (WeightInRange w → ⊥) → NetFault Misnumbered job n w k (OutOfRange k)
-  net-count : 512 ≤ length job.nets → NetFault Misnumbered job n w k (TooMany k)
+  net_range : (NetInRange job.board n → ⊥) → NetFault Misnumbered job n w k (OutOfRange k)
+  weight_range : (WeightInRange w → ⊥) → NetFault Misnumbered job n w k (OutOfRange k)
+  net_count : 512 ≤ length job.nets → NetFault Misnumbered job n w k (TooMany k)
   misnumbered : Misnumbered → NetFault Misnumbered job n w k (NumberNotAbove k)
-  left-used : (m : Net) → Memᴰ m job.nets → m.left.0 ≡ n.left.0 → NetFault Misnumbered job n w k (PinUsed k)
-  right-used : (m : Net) → Memᴰ m job.nets → m.right.0 ≡ n.right.0 → NetFault Misnumbered job n w k (PinUsed k)
+  left_used : (m : Net) → Memᴰ m job.nets → m.left.0 ≡ n.left.0 → NetFault Misnumbered job n w k (PinUsed k)
+  right_used : (m : Net) → Memᴰ m job.nets → m.right.0 ≡ n.right.0 → NetFault Misnumbered job n w k (PinUsed k)
   same_row : n.left.0 ≡ n.right.0 → NetFault Misnumbered job n w k (SameRow k)
   no_length : ((s : Shape) → Allowed job.board n s → ⊥) → NetFault Misnumbered job n w k (NoLength k)
-  too-few-rows : job.board.rows < needed job.board n → NetFault Misnumbered job n w k (TooFewRows k)
+  too_few_rows : job.board.rows < needed job.board n → NetFault Misnumbered job n w k (TooFewRows k)
 
 -- number 5 of a line: the last net above it has no smaller number
 pub record NotAbove (nets : List Net) (n : Net) : Type 0 where
   pub before : List Net
   pub last : Net
-  pub nets-are : nets ≡ before ++ (last ∷ [])
-  pub not-above : n.number ≤ last.number
+  pub nets_are : nets ≡ before ++ (last ∷ [])
+  pub not_above : n.number ≤ last.number
 
 -- the faults of block b on line k, where `job` is what the lines above hold
 pub data BlockFault (job : Job) (b : Block) (k : ℕ) : Outcome → Type 0 where
-  block-range : (BlockInRange job.board b → ⊥) → BlockFault job b k (OutOfRange k)
-  block-count : 256 ≤ length job.blocks → BlockFault job b k (TooMany k)
+  block_range : (BlockInRange job.board b → ⊥) → BlockFault job b k (OutOfRange k)
+  block_count : 256 ≤ length job.blocks → BlockFault job b k (TooMany k)
 
 -- the faults of line k, of the given form, below the lines `above`
 pub data LineFault (above : List Form) (k : ℕ) : Form → Outcome → Type 0 where
-  not-of-form : {f : Form} → (MayFollow above f → ⊥) → LineFault above k f (NotOfForm k)
-  rows-range : {h : ℕ} → ((1 ≤ h) × (h ≤ 1024) → ⊥) → LineFault above k (Is.Rows h) (OutOfRange k)
-  tracks-range : {t : ℕ} → ((1 ≤ t) × (t ≤ 128) → ⊥) → LineFault above k (Is.Tracks t) (OutOfRange k)
-  of-net : {i l r lo hi : ℕ} {w : Optional} {o : Outcome} →
-      (let job = jobIn above in let n = netGiven job.board i l r lo hi w in NetFault (NotAbove job.nets n) job n w k o) →
+  not_of_form : {f : Form} → (MayFollow above f → ⊥) → LineFault above k f (NotOfForm k)
+  rows_range : {h : ℕ} → ((1 ≤ h) × (h ≤ 1024) → ⊥) → LineFault above k (Is.Rows h) (OutOfRange k)
+  tracks_range : {t : ℕ} → ((1 ≤ t) × (t ≤ 128) → ⊥) → LineFault above k (Is.Tracks t) (OutOfRange k)
+  of_net : {i l r lo hi : ℕ} {w : Optional} {o : Outcome} →
+      (let job = job_in above in let n = net_given job.board i l r lo hi w in NetFault (NotAbove job.nets n) job n w k o) →
       LineFault above k (Is.Net i l r lo hi w) o
-  of-block : {t a b : ℕ} {o : Outcome} → BlockFault (jobIn above) (block_of t a b) k o → LineFault above k (Is.Block t a b) o
+  of_block : {t a b : ℕ} {o : Outcome} → BlockFault (job_in above) (block_of t a b) k o → LineFault above k (Is.Block t a b) o
 
 -- the faults of a text: its length, those of its lines, and, at the line after the last, that its lines are no whole job: the text ends early
 -- where no line above is faulty
 pub data Fault (text : List ℕ) : Outcome → Type 0 where
   too_long : 64000 < length text → Fault text TooLong
-  on_line : (above below : List Form) (f : Form) {o : Outcome} → formsOf text ≡ above ++ (f ∷ below) →
+  on_line : (above below : List Form) (f : Form) {o : Outcome} → forms_of text ≡ above ++ (f ∷ below) →
       LineFault above (suc (length above)) f o → Fault text o
-  ends-early : (k : ℕ) → k ≡ suc (length (formsOf text)) → (Ordered (Is.Close ∷ []) (formsOf text) → ⊥) → Fault text (NotOfForm k)
+  ends_early : (k : ℕ) → k ≡ suc (length (forms_of text)) → (Ordered (Is.Close ∷ []) (forms_of text) → ⊥) → Fault text (NotOfForm k)
 
 -- the fault that counts: no fault is on a line before it, and none on its line has a smaller number
 pub record FirstFault (text : List ℕ) (o : Outcome) : Type 0 where
   pub fault : Fault text o
-  pub first-line : (p : Outcome) → Fault text p → line_of o ≤ line_of p
-  pub first-number : (p : Outcome) → Fault text p → line_of p ≡ line_of o → number_of o ≤ number_of p
+  pub first_line : (p : Outcome) → Fault text p → line_of o ≤ line_of p
+  pub first_number : (p : Outcome) → Fault text p → line_of p ≡ line_of o → number_of o ≤ number_of p

@@ -3,9 +3,9 @@ use Rattle.std.specs.Prelude.{Bool, true, false, cond, ◌&&◌, List, [], ◌�
 use Rattle.std.proofs.Math.Option.{Option, none, some}
 use Rattle.text.specs.Bytes.{same}
 use Rattle.text.specs.Digits.{number}
-use Rattle.keywords.specs.Keywords.{findWord}
+use Rattle.keywords.specs.Keywords.{find_word}
 use Rattle.keywords.specs.declared.Vocabulary.TheVariants as Words
-use Rattle.lines.specs.Tokens.{lineWords, opening, closing}
+use Rattle.lines.specs.Tokens.{line_words, opening, closing}
 use Rattle.jobfile.specs.declared.Optional.TheVariants.{LeftOut, Written}
 use Rattle.jobfile.specs.declared.Form.{Form}
 use Rattle.jobfile.specs.declared.Form.TheVariants.{Blank, Board, Rows, Tracks, Net, Block, Close, Other}
@@ -16,57 +16,57 @@ no_word [] = true
 no_word (w ∷ ws) = false
 
 -- x where no word is left; otherwise the line is not of the form
-unfoldable pub ifLast : List (List ℕ) → Form → Form
-ifLast ws x = cond (no_word ws) x Other
+unfoldable pub if_last : List (List ℕ) → Form → Form
+if_last ws x = cond (no_word ws) x Other
 
 -- a number before further ones, where all of them are numbers
-unfoldable pub consNumber : Option ℕ → Option (List ℕ) → Option (List ℕ)
-consNumber none ns = none
-consNumber (some n) none = none
-consNumber (some n) (some ns) = some (n ∷ ns)
+unfoldable pub cons_number : Option ℕ → Option (List ℕ) → Option (List ℕ)
+cons_number none ns = none
+cons_number (some n) none = none
+cons_number (some n) (some ns) = some (n ∷ ns)
 
 -- at most k numbers of one to five digits, then a closing bracket and nothing more
 unfoldable pub arguments : ℕ → List (List ℕ) → Option (List ℕ)
 arguments zero [] = none
 arguments zero (w ∷ ws) = cond (same w closing && no_word ws) (some []) none
 arguments (suc k) [] = none
-arguments (suc k) (w ∷ ws) = let more = consNumber (number 5 w) (arguments k ws) in cond (same w closing && no_word ws) (some []) more
+arguments (suc k) (w ∷ ws) = let more = cons_number (number 5 w) (arguments k ws) in cond (same w closing && no_word ws) (some []) more
 
 -- the form that numbers make, where they are given
-unfoldable pub formFrom : Option (List ℕ) → (List ℕ → Form) → Form
-formFrom none f = Other
-formFrom (some ns) f = f ns
+unfoldable pub form_from : Option (List ℕ) → (List ℕ → Form) → Form
+form_from none f = Other
+form_from (some ns) f = f ns
 
 -- x where there are so many numbers; otherwise the line is not of the form
-unfoldable pub ifCount : ℕ → List ℕ → Form → Form
-ifCount k a x = cond (eqb (length a) k) x Other
+unfoldable pub if_count : ℕ → List ℕ → Form → Form
+if_count k a x = cond (eqb (length a) k) x Other
 
 -- the form that word i of the table makes of numbers: as many as it takes; a net may have a sixth, its weight
-unfoldable pub formMade : ℕ → List ℕ → Form
-formMade zero a = Other
-formMade (suc zero) a = ifCount 1 a (Rows (get_or a 0 0))
-formMade (suc (suc zero)) a = ifCount 1 a (Tracks (get_or a 0 0))
-formMade (suc (suc (suc zero))) a =
+unfoldable pub form_made : ℕ → List ℕ → Form
+form_made zero a = Other
+form_made (suc zero) a = if_count 1 a (Rows (get_or a 0 0))
+form_made (suc (suc zero)) a = if_count 1 a (Tracks (get_or a 0 0))
+form_made (suc (suc (suc zero))) a =
     cond (eqb (length a) 6) (Net (get_or a 0 0) (get_or a 1 0) (get_or a 2 0) (get_or a 3 0) (get_or a 4 0) (Written (get_or a 5 0)))
-    (ifCount 5 a (Net (get_or a 0 0) (get_or a 1 0) (get_or a 2 0) (get_or a 3 0) (get_or a 4 0) LeftOut))
-formMade (suc (suc (suc (suc zero)))) a = ifCount 3 a (Block (get_or a 0 0) (get_or a 1 0) (get_or a 2 0))
-formMade (suc (suc (suc (suc (suc i))))) a = Other
+    (if_count 5 a (Net (get_or a 0 0) (get_or a 1 0) (get_or a 2 0) (get_or a 3 0) (get_or a 4 0) LeftOut))
+form_made (suc (suc (suc (suc zero)))) a = if_count 3 a (Block (get_or a 0 0) (get_or a 1 0) (get_or a 2 0))
+form_made (suc (suc (suc (suc (suc i))))) a = Other
 
 -- the form that word i of the table opens, with the words behind it
-unfoldable pub formAfter : ℕ → List (List ℕ) → Form
-formAfter zero ws = ifLast ws Board
-formAfter (suc i) ws = formFrom (arguments 6 ws) (formMade (suc i))
+unfoldable pub form_after : ℕ → List (List ℕ) → Form
+form_after zero ws = if_last ws Board
+form_after (suc i) ws = form_from (arguments 6 ws) (form_made (suc i))
 
 -- the form of the words behind an opening bracket
-unfoldable pub formOpened : List (List ℕ) → Form
-formOpened [] = Other
-formOpened (w ∷ ws) = formAfter (findWord Words.Job w) ws
+unfoldable pub form_opened : List (List ℕ) → Form
+form_opened [] = Other
+form_opened (w ∷ ws) = form_after (find_word Words.Job w) ws
 
 -- the form of the words of a line, each bracket a word of its own
 unfoldable pub form_of : List (List ℕ) → Form
 form_of [] = Blank
-form_of (w ∷ ws) = cond (same w closing) (ifLast ws Close) (cond (same w opening) (formOpened ws) Other)
+form_of (w ∷ ws) = cond (same w closing) (if_last ws Close) (cond (same w opening) (form_opened ws) Other)
 
 -- the form that a line is
-unfoldable pub readForm : List ℕ → Form
-readForm s = form_of (lineWords s)
+unfoldable pub read_form : List ℕ → Form
+read_form s = form_of (line_words s)

@@ -7,9 +7,9 @@ ghost use Rattle.std.specs.Io.{StartsWith};
 ghost use Rattle.files.specs.FileTexts.{text_of, ReadText};
 ghost use Rattle.planning.specs.Plan.{plan_of};
 ghost use Rattle.sound.specs.Sound.{Sound};
-ghost use Rattle.routing.specs.Route.{routeText};
+ghost use Rattle.routing.specs.Route.{route_text};
 ghost use Rattle.routing.specs.Promises.{ShortestText, UnbeatenText};
-ghost use Rattle.house.specs.HouseText.{houseText};
+ghost use Rattle.house.specs.HouseText.{house_text};
 ghost use Rattle.house.specs.Promises.{IsFixed, ReadsBack, OneText, FixedAgain};
 ghost use Rattle.jobinput.specs.InputPrinted.{InputPrinted, OfInput};
 
@@ -28,7 +28,7 @@ pub struct PrintedInput {
 pub fn routed_input<R: Read + Drop>(input: R) -> PrintedInput
     ensures read { ReadText result.job }
     ensures given { IfSome (R.remaining input) (λ xs. StartsWith xs (text_of result.job)) }
-    ensures printed { InputPrinted routeText result }
+    ensures printed { InputPrinted route_text result }
     ensures shortest { OfInput (λ j text. ShortestText j (plan_of j) text) result }
     ensures sound { OfInput (λ j text. Sound j text) result }
     ensures unbeaten { OfInput (λ j text. UnbeatenText j text) result }
@@ -45,7 +45,7 @@ pub fn routed_input<R: Read + Drop>(input: R) -> PrintedInput
 pub fn fixed_input<R: Read + Drop>(input: R) -> PrintedInput
     ensures read { ReadText result.job }
     ensures given { IfSome (R.remaining input) (λ xs. StartsWith xs (text_of result.job)) }
-    ensures printed { InputPrinted houseText result }
+    ensures printed { InputPrinted house_text result }
     ensures fixed { OfInput IsFixed result }
     ensures read_back { OfInput ReadsBack result }
     ensures one_text { OfInput OneText result }

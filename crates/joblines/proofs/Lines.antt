@@ -5,9 +5,9 @@ use mathlib.Core.List.{List, [], ◌∷◌, ◌++◌, append_assoc}
 use borrow.Author.Tests.{eq-eqb, ne_eqb}
 use Rattle.text.specs.Digits.{digits}
 use Rattle.text.specs.Written.{WrittenAt}
-use Rattle.text.proofs.Writing.{none-at}
-use Rattle.keywords.specs.Keywords.{netWord, word_of}
-use Rattle.linewriter.specs.LineText.{headText}
+use Rattle.text.proofs.Writing.{none_at}
+use Rattle.keywords.specs.Keywords.{net_word, word_of}
+use Rattle.linewriter.specs.LineText.{head_text}
 use Rattle.keywords.specs.declared.Vocabulary.TheVariants.{Job}
 use Rattle.board.specs.declared.Board.{Board}
 use Rattle.board.specs.declared.Net.{Net}
@@ -15,75 +15,75 @@ use Rattle.board.specs.declared.Block.{Block}
 use Rattle.board.specs.Length.{needed}
 use Rattle.jobfile.specs.declared.Optional.{Optional}
 use Rattle.jobfile.specs.declared.Optional.TheVariants.{LeftOut, Written}
-use Rattle.house.specs.HouseText.{spacedThen, innerLine, weightWritten, optionalNumber, netNumbers, block_line}
-use Rattle.joblines.specs.Lines.{ended, twoText, optionalText}
+use Rattle.house.specs.HouseText.{spaced_then, inner_line, weight_written, optional_number, net_numbers, block_line}
+use Rattle.joblines.specs.Lines.{ended, two_text, optional_text}
 
 -- numbers and what is behind them, with a byte more
-spaced-ended : (ns rest : List ℕ) → spacedThen ns rest ++ (10 ∷ []) ≡ spacedThen ns (rest ++ (10 ∷ []))
-unfolding spacedThen
-spaced-ended [] rest = refl
-spaced-ended (n ∷ ns) rest = ap (λ l. 32 ∷ l) (append_assoc (digits n) (spacedThen ns rest) (10 ∷ []) ∙ ap (λ l. digits n ++ l) (spaced-ended ns rest))
+spaced_ended : (ns rest : List ℕ) → spaced_then ns rest ++ (10 ∷ []) ≡ spaced_then ns (rest ++ (10 ∷ []))
+unfolding spaced_then
+spaced_ended [] rest = refl
+spaced_ended (n ∷ ns) rest = ap (λ l. 32 ∷ l) (append_assoc (digits n) (spaced_then ns rest) (10 ∷ []) ∙ ap (λ l. digits n ++ l) (spaced_ended ns rest))
 
 -- an inner line: how it begins, and the numbers behind the first
-line-parts : (i n : ℕ) (ns : List ℕ) → ended (innerLine (word_of Job i) (n ∷ ns)) ≡ headText Job i n ++ spacedThen ns (41 ∷ 10 ∷ [])
-unfolding innerLine headText spacedThen
-line-parts i n ns =
-    let t = spacedThen ns (41 ∷ []) in
+line_parts : (i n : ℕ) (ns : List ℕ) → ended (inner_line (word_of Job i) (n ∷ ns)) ≡ head_text Job i n ++ spaced_then ns (41 ∷ 10 ∷ [])
+unfolding inner_line head_text spaced_then
+line_parts i n ns =
+    let t = spaced_then ns (41 ∷ []) in
     ap (λ l. 32 ∷ 40 ∷ l)
     (append_assoc (word_of Job i) (32 ∷ (digits n ++ t)) (10 ∷ []) ∙
-    ap (λ l. word_of Job i ++ (32 ∷ l)) (append_assoc (digits n) t (10 ∷ []) ∙ ap (λ l. digits n ++ l) (spaced-ended ns (41 ∷ []))) ∙
-    sym (append_assoc (word_of Job i) (32 ∷ digits n) (spacedThen ns (41 ∷ 10 ∷ []))))
+    ap (λ l. word_of Job i ++ (32 ∷ l)) (append_assoc (digits n) t (10 ∷ []) ∙ ap (λ l. digits n ++ l) (spaced_ended ns (41 ∷ []))) ∙
+    sym (append_assoc (word_of Job i) (32 ∷ digits n) (spaced_then ns (41 ∷ 10 ∷ []))))
 
-two-parts : (a b : ℕ) (ns rest : List ℕ) → spacedThen (a ∷ b ∷ ns) rest ≡ twoText a b ++ spacedThen ns rest
-unfolding spacedThen
-two-parts a b ns rest = ap (λ l. 32 ∷ l) (sym (append_assoc (digits a) (32 ∷ digits b) (spacedThen ns rest)))
+two_parts : (a b : ℕ) (ns rest : List ℕ) → spaced_then (a ∷ b ∷ ns) rest ≡ two_text a b ++ spaced_then ns rest
+unfolding spaced_then
+two_parts a b ns rest = ap (λ l. 32 ∷ l) (sym (append_assoc (digits a) (32 ∷ digits b) (spaced_then ns rest)))
 
-none-parts : (rest : List ℕ) → spacedThen [] rest ≡ rest
-unfolding spacedThen
-none-parts rest = refl
+none_parts : (rest : List ℕ) → spaced_then [] rest ≡ rest
+unfolding spaced_then
+none_parts rest = refl
 
-pub size-parts : (i n : ℕ) → ended (innerLine (word_of Job i) (n ∷ [])) ≡ headText Job i n ++ (41 ∷ 10 ∷ [])
-size-parts i n = line-parts i n [] ∙ ap (λ l. headText Job i n ++ l) (none-parts (41 ∷ 10 ∷ []))
+pub size_parts : (i n : ℕ) → ended (inner_line (word_of Job i) (n ∷ [])) ≡ head_text Job i n ++ (41 ∷ 10 ∷ [])
+size_parts i n = line_parts i n [] ∙ ap (λ l. head_text Job i n ++ l) (none_parts (41 ∷ 10 ∷ []))
 
-optional-parts : (w : Optional) (rest : List ℕ) → spacedThen (optionalNumber w) rest ≡ optionalText w ++ rest
-unfolding spacedThen optionalText
-optional-parts LeftOut rest = refl
-optional-parts (Written x) rest = refl
+optional_parts : (w : Optional) (rest : List ℕ) → spaced_then (optional_number w) rest ≡ optional_text w ++ rest
+unfolding spaced_then optional_text
+optional_parts LeftOut rest = refl
+optional_parts (Written x) rest = refl
 
 -- a number that is left out, and one that is written
-pub none-put : (w : Optional) (at : ℕ) (s : List ℕ) → w ≡ LeftOut → WrittenAt at (optionalText w) s s at
-unfolding optionalText
-none-put w at s e = rw e (none-at at s)
+pub none_put : (w : Optional) (at : ℕ) (s : List ℕ) → w ≡ LeftOut → WrittenAt at (optional_text w) s s at
+unfolding optional_text
+none_put w at s e = rw e (none_at at s)
 
-pub some-text : (w : Optional) (x : ℕ) → w ≡ Written x → optionalText w ≡ 32 ∷ digits x
-unfolding optionalText
-some-text w x e = rw e
+pub some_text : (w : Optional) (x : ℕ) → w ≡ Written x → optional_text w ≡ 32 ∷ digits x
+unfolding optional_text
+some_text w x e = rw e
 
-pub some-put : (w : Optional) (x : ℕ) {at r : ℕ} {s t : List ℕ} → w ≡ Written x → WrittenAt at (32 ∷ digits x) s t r → WrittenAt at (optionalText w) s t r
-some-put w x e h = rw (some-text w x e) h
+pub some_put : (w : Optional) (x : ℕ) {at r : ℕ} {s t : List ℕ} → w ≡ Written x → WrittenAt at (32 ∷ digits x) s t r → WrittenAt at (optional_text w) s t r
+some_put w x e h = rw (some_text w x e) h
 
 -- the weight of a net: left out, or written
-pub weight-left-out : (board : Board) (n : Net) → n.weight ≡ needed board n → LeftOut ≡ weightWritten board n
-unfolding weightWritten
-weight-left-out board n e = rw (eq-eqb n.weight (needed board n) e)
+pub weight_left_out : (board : Board) (n : Net) → n.weight ≡ needed board n → LeftOut ≡ weight_written board n
+unfolding weight_written
+weight_left_out board n e = rw (eq-eqb n.weight (needed board n) e)
 
-pub weight-put : (board : Board) (n : Net) → (n.weight ≡ needed board n → ⊥) → Written n.weight ≡ weightWritten board n
-unfolding weightWritten
-weight-put board n d = rw (ne_eqb n.weight (needed board n) d)
+pub weight_put : (board : Board) (n : Net) → (n.weight ≡ needed board n → ⊥) → Written n.weight ≡ weight_written board n
+unfolding weight_written
+weight_put board n d = rw (ne_eqb n.weight (needed board n) d)
 
-pub net-parts : (n : Net) (w : Optional) → ended (innerLine netWord (netNumbers n w)) ≡
-    headText Job 3 n.number ++ (twoText n.left.0 n.right.0 ++ (twoText n.min n.max ++ (optionalText w ++ (41 ∷ 10 ∷ []))))
+pub net_parts : (n : Net) (w : Optional) → ended (inner_line net_word (net_numbers n w)) ≡
+    head_text Job 3 n.number ++ (two_text n.left.0 n.right.0 ++ (two_text n.min n.max ++ (optional_text w ++ (41 ∷ 10 ∷ []))))
 unfolding word_of
-net-parts n w =
-    line-parts 3 n.number (n.left.0 ∷ n.right.0 ∷ n.min ∷ n.max ∷ optionalNumber w) ∙
-    ap (λ l. headText Job 3 n.number ++ l)
-    (two-parts n.left.0 n.right.0 (n.min ∷ n.max ∷ optionalNumber w) (41 ∷ 10 ∷ []) ∙
-    ap (λ l. twoText n.left.0 n.right.0 ++ l)
-    (two-parts n.min n.max (optionalNumber w) (41 ∷ 10 ∷ []) ∙ ap (λ l. twoText n.min n.max ++ l) (optional-parts w (41 ∷ 10 ∷ []))))
+net_parts n w =
+    line_parts 3 n.number (n.left.0 ∷ n.right.0 ∷ n.min ∷ n.max ∷ optional_number w) ∙
+    ap (λ l. head_text Job 3 n.number ++ l)
+    (two_parts n.left.0 n.right.0 (n.min ∷ n.max ∷ optional_number w) (41 ∷ 10 ∷ []) ∙
+    ap (λ l. two_text n.left.0 n.right.0 ++ l)
+    (two_parts n.min n.max (optional_number w) (41 ∷ 10 ∷ []) ∙ ap (λ l. two_text n.min n.max ++ l) (optional_parts w (41 ∷ 10 ∷ []))))
 
-pub block-parts : (b : Block) → ended (block_line b) ≡ headText Job 4 b.track.0 ++ (twoText b.first.0 b.last.0 ++ (41 ∷ 10 ∷ []))
+pub block_parts : (b : Block) → ended (block_line b) ≡ head_text Job 4 b.track.0 ++ (two_text b.first.0 b.last.0 ++ (41 ∷ 10 ∷ []))
 unfolding word_of
-block-parts b =
-    line-parts 4 b.track.0 (b.first.0 ∷ b.last.0 ∷ []) ∙
-    ap (λ l. headText Job 4 b.track.0 ++ l)
-    (two-parts b.first.0 b.last.0 [] (41 ∷ 10 ∷ []) ∙ ap (λ l. twoText b.first.0 b.last.0 ++ l) (none-parts (41 ∷ 10 ∷ [])))
+block_parts b =
+    line_parts 4 b.track.0 (b.first.0 ∷ b.last.0 ∷ []) ∙
+    ap (λ l. head_text Job 4 b.track.0 ++ l)
+    (two_parts b.first.0 b.last.0 [] (41 ∷ 10 ∷ []) ∙ ap (λ l. two_text b.first.0 b.last.0 ++ l) (none_parts (41 ∷ 10 ∷ [])))

@@ -9,10 +9,10 @@ abbrev pub ended : List ℕ → List ℕ
 ended l = l ++ (10 ∷ [])
 
 -- two numbers, each behind a space
-abbrev pub twoText : ℕ → ℕ → List ℕ
-twoText a b = (32 ∷ digits a) ++ (32 ∷ digits b)
+abbrev pub two_text : ℕ → ℕ → List ℕ
+two_text a b = (32 ∷ digits a) ++ (32 ∷ digits b)
 
 -- a number behind a space, or nothing
-unfoldable pub optionalText : Optional → List ℕ
-optionalText LeftOut = []
-optionalText (Written x) = 32 ∷ digits x
+unfoldable pub optional_text : Optional → List ℕ
+optional_text LeftOut = []
+optional_text (Written x) = 32 ∷ digits x

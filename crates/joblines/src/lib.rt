@@ -4,10 +4,10 @@
 ghost use Rattle.std.specs.Prelude.{[], ◌∷◌, ◌+◌, ◌≤◌, ◌<◌, length, ◌≡◌};
 ghost use Rattle.text.specs.Written.{Written, WrittenAt};
 ghost use Rattle.board.specs.Accepted.{BoardInRange, NetInRange};
-ghost use Rattle.keywords.specs.Keywords.{netWord, word_of};
+ghost use Rattle.keywords.specs.Keywords.{net_word, word_of};
 ghost use Rattle.keywords.specs.declared.Vocabulary.TheVariants.{Job};
-ghost use Rattle.house.specs.HouseText.{innerLine, weightWritten, netNumbers, netLine, block_line};
-ghost use Rattle.joblines.specs.Lines.{ended, twoText, optionalText};
+ghost use Rattle.house.specs.HouseText.{inner_line, weight_written, net_numbers, net_line, block_line};
+ghost use Rattle.joblines.specs.Lines.{ended, two_text, optional_text};
 
 use board::{Block, Board, Net};
 use jobfile::Optional;
@@ -15,8 +15,8 @@ use keywords::Vocabulary;
 
 // Writes two numbers, each behind a space.
 fn put_two(out: &mut [u8], at: usize, a: usize, b: usize) -> usize
-    requires { at + length (twoText a b) ≤ length out.old }
-    ensures { WrittenAt at (twoText a b) out.old out.new result }
+    requires { at + length (two_text a b) ≤ length out.old }
+    ensures { WrittenAt at (two_text a b) out.old out.new result }
 {
     let next = text::put_spaced(out, at, a);
     text::put_spaced(out, next, b)
@@ -24,8 +24,8 @@ fn put_two(out: &mut [u8], at: usize, a: usize, b: usize) -> usize
 
 // Writes a number behind a space, or nothing where it is left out.
 fn put_optional(out: &mut [u8], at: usize, number: Optional) -> usize
-    requires { at + length (optionalText number) ≤ length out.old }
-    ensures { WrittenAt at (optionalText number) out.old out.new result }
+    requires { at + length (optional_text number) ≤ length out.old }
+    ensures { WrittenAt at (optional_text number) out.old out.new result }
 {
     match number {
         Optional::LeftOut => at,
@@ -37,7 +37,7 @@ fn put_optional(out: &mut [u8], at: usize, number: Optional) -> usize
 fn weight_written(board: Board, net: Net) -> Optional
     requires board_in_range { BoardInRange board }
     requires net_in_range { NetInRange board net }
-    ensures { result ≡ weightWritten board net }
+    ensures { result ≡ weight_written board net }
 {
     if net.weight == board::needed(board, net) {
         return Optional::LeftOut;
@@ -50,8 +50,8 @@ fn weight_written(board: Board, net: Net) -> Optional
 // Writes a line with one number behind word i of the table.
 fn size_line(out: &mut [u8], i: usize, number: usize) -> usize
     requires i_bound { i < 5 }
-    requires number_in_bounds { length (ended (innerLine (word_of Job i) (number ∷ []))) ≤ length out.old }
-    ensures { Written (ended (innerLine (word_of Job i) (number ∷ []))) out.old out.new result }
+    requires number_in_bounds { length (ended (inner_line (word_of Job i) (number ∷ []))) ≤ length out.old }
+    ensures { Written (ended (inner_line (word_of Job i) (number ∷ []))) out.old out.new result }
 {
     let a = linewriter::put_head(out, 0, Vocabulary::Job, i, number);
     text::put_bytes_at(out, a, b")\n")
@@ -59,8 +59,8 @@ fn size_line(out: &mut [u8], i: usize, number: usize) -> usize
 
 // Writes the line of a net with the weight that it gives.
 fn net_line(out: &mut [u8], net: Net, weight: Optional) -> usize
-    requires { length (ended (innerLine netWord (netNumbers net weight))) ≤ length out.old }
-    ensures { Written (ended (innerLine netWord (netNumbers net weight))) out.old out.new result }
+    requires { length (ended (inner_line net_word (net_numbers net weight))) ≤ length out.old }
+    ensures { Written (ended (inner_line net_word (net_numbers net weight))) out.old out.new result }
 {
     let number = net.number;
     let left = net.left.0;
@@ -90,8 +90,8 @@ fn block_line(out: &mut [u8], block: Block) -> usize
 // Writes a line with one number from a place on.
 pub fn put_size(out: &mut [u8], at: usize, i: usize, number: usize) -> usize
     requires i_bound { i < 5 }
-    requires number_in_bounds { at + length (ended (innerLine (word_of Job i) (number ∷ []))) ≤ length out.old }
-    ensures { WrittenAt at (ended (innerLine (word_of Job i) (number ∷ []))) out.old out.new result }
+    requires number_in_bounds { at + length (ended (inner_line (word_of Job i) (number ∷ []))) ≤ length out.old }
+    ensures { WrittenAt at (ended (inner_line (word_of Job i) (number ∷ []))) out.old out.new result }
 {
     at + size_line(&mut out[at..], i, number)
 }
@@ -100,8 +100,8 @@ pub fn put_size(out: &mut [u8], at: usize, i: usize, number: usize) -> usize
 pub fn put_net(out: &mut [u8], at: usize, board: Board, net: Net) -> usize
     requires board_in_range { BoardInRange board }
     requires net_in_range { NetInRange board net }
-    requires net_in_bounds { at + length (ended (netLine board net)) ≤ length out.old }
-    ensures { WrittenAt at (ended (netLine board net)) out.old out.new result }
+    requires net_in_bounds { at + length (ended (net_line board net)) ≤ length out.old }
+    ensures { WrittenAt at (ended (net_line board net)) out.old out.new result }
 {
     let weight = weight_written(board, net);
     at + net_line(&mut out[at..], net, weight)

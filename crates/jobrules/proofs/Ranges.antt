@@ -9,52 +9,52 @@ use Rattle.board.specs.declared.Board.{Board}
 use Rattle.board.specs.declared.Net.{Net}
 use Rattle.board.specs.declared.Block.{Block}
 use Rattle.jobfile.specs.declared.Optional.{Optional}
-use Rattle.jobfile.specs.Read.{within, weightInRange, netInRange, blockInRange}
+use Rattle.jobfile.specs.Read.{within, weight_in_range, net_in_range, block_in_range}
 
 module _ (board : Board) (n : Net) (w : Optional) where
-  pub number-outside : within 1 9999 n.number ≡ false → false ≡ netInRange board n w
-  unfolding netInRange
-  number-outside e = rw e
+  pub number_outside : within 1 9999 n.number ≡ false → false ≡ net_in_range board n w
+  unfolding net_in_range
+  number_outside e = rw e
 
   module _ (a : within 1 9999 n.number ≡ true) where
-    pub left-outside : within 1 board.rows n.left.0 ≡ false → false ≡ netInRange board n w
-    unfolding netInRange
-    left-outside e = rw (a, e)
+    pub left_outside : within 1 board.rows n.left.0 ≡ false → false ≡ net_in_range board n w
+    unfolding net_in_range
+    left_outside e = rw (a, e)
 
     module _ (b : within 1 board.rows n.left.0 ≡ true) where
-      pub right-outside : within 1 board.rows n.right.0 ≡ false → false ≡ netInRange board n w
-      unfolding netInRange
-      right-outside e = rw (a, b, e)
+      pub right_outside : within 1 board.rows n.right.0 ≡ false → false ≡ net_in_range board n w
+      unfolding net_in_range
+      right_outside e = rw (a, b, e)
 
       module _ (c : within 1 board.rows n.right.0 ≡ true) where
-        pub min-outside : 4095 < n.min → false ≡ netInRange board n w
-        unfolding netInRange
-        min-outside h = rw (a, b, c, lt-leb n.min 4095 h)
+        pub min_outside : 4095 < n.min → false ≡ net_in_range board n w
+        unfolding net_in_range
+        min_outside h = rw (a, b, c, lt-leb n.min 4095 h)
 
         module _ (d : n.min ≤ 4095) where
-          pub max-outside : 4095 < n.max → false ≡ netInRange board n w
-          unfolding netInRange
-          max-outside h = rw (a, b, c, le-leb n.min 4095 d, lt-leb n.max 4095 h)
+          pub max_outside : 4095 < n.max → false ≡ net_in_range board n w
+          unfolding net_in_range
+          max_outside h = rw (a, b, c, le-leb n.min 4095 d, lt-leb n.max 4095 h)
 
-          pub weight-decides : n.max ≤ 4095 → weightInRange w ≡ netInRange board n w
-          unfolding netInRange
-          weight-decides h = rw (a, b, c, le-leb n.min 4095 d, le-leb n.max 4095 h)
+          pub weight_decides : n.max ≤ 4095 → weight_in_range w ≡ net_in_range board n w
+          unfolding net_in_range
+          weight_decides h = rw (a, b, c, le-leb n.min 4095 d, le-leb n.max 4095 h)
 
 module _ (board : Board) (b : Block) where
-  pub track-outside : within 1 board.tracks b.track.0 ≡ false → false ≡ blockInRange board b
-  unfolding blockInRange
-  track-outside e = rw e
+  pub track_outside : within 1 board.tracks b.track.0 ≡ false → false ≡ block_in_range board b
+  unfolding block_in_range
+  track_outside e = rw e
 
   module _ (t : within 1 board.tracks b.track.0 ≡ true) where
-    pub first-outside : within 1 board.rows b.first.0 ≡ false → false ≡ blockInRange board b
-    unfolding blockInRange
-    first-outside e = rw (t, e)
+    pub first_outside : within 1 board.rows b.first.0 ≡ false → false ≡ block_in_range board b
+    unfolding block_in_range
+    first_outside e = rw (t, e)
 
     module _ (f : within 1 board.rows b.first.0 ≡ true) where
-      pub last-outside : within 1 board.rows b.last.0 ≡ false → false ≡ blockInRange board b
-      unfolding blockInRange
-      last-outside e = rw (t, f, e)
+      pub last_outside : within 1 board.rows b.last.0 ≡ false → false ≡ block_in_range board b
+      unfolding block_in_range
+      last_outside e = rw (t, f, e)
 
-      pub order-decides : within 1 board.rows b.last.0 ≡ true → leb b.first.0 b.last.0 ≡ blockInRange board b
-      unfolding blockInRange
-      order-decides l = rw (t, f, l)
+      pub order_decides : within 1 board.rows b.last.0 ≡ true → leb b.first.0 b.last.0 ≡ block_in_range board b
+      unfolding block_in_range
+      order_decides l = rw (t, f, l)

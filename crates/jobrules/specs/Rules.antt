@@ -11,14 +11,14 @@ use Rattle.jobfile.specs.Read.{Next, go, stop}
 use Rattle.jobrules.specs.declared.UsedPins.{UsedPins}
 
 -- the outcome of a line: nothing is refused where the lines go on
-unfoldable pub outcomeOf : Next → Outcome
-outcomeOf (go s) = Accepted
-outcomeOf (stop o) = o
+unfoldable pub outcome_of : Next → Outcome
+outcome_of (go s) = Accepted
+outcome_of (stop o) = o
 
 -- L and R of a net are rows of the largest board
 pub record RowsInRange (net : Net) : Type 0 where
-  pub left-range : (1 ≤ net.left.0) × (net.left.0 ≤ 1024)
-  pub right-range : (1 ≤ net.right.0) × (net.right.0 ≤ 1024)
+  pub left_range : (1 ≤ net.left.0) × (net.left.0 ≤ 1024)
+  pub right_range : (1 ≤ net.right.0) × (net.right.0 ≤ 1024)
 
 -- the pins that the nets use: on either side exactly the bits of their rows are set
 pub record PinsOf (nets : List Net) (used : UsedPins) : Type 0 where
@@ -28,5 +28,5 @@ pub record PinsOf (nets : List Net) (used : UsedPins) : Type 0 where
 -- what a net more of the job is held against: the size, how many nets there are and the pins that they use
 pub record NetsAbove (job : Job) (size : Board) (count : ℕ) (used : UsedPins) : Type 0 where
   pub size_is : job.board ≡ size
-  pub count-is : length job.nets ≡ count
+  pub count_is : length job.nets ≡ count
   pub pins : PinsOf job.nets used

@@ -6,10 +6,10 @@ ghost use Rattle.std.specs.Prelude.{◌≡◌, List, [], ◌∷◌, ◌++◌, le
 ghost use Rattle.lists.specs.Lists.{all_of};
 ghost use Rattle.board.specs.Job.{Job};
 ghost use Rattle.board.specs.Accepted.{BoardInRange, NetInRange};
-ghost use Rattle.board.specs.Stored.{storedOf};
-ghost use Rattle.jobfile.specs.Read.{State, within, weightInRange, netInRange, withWeight, blockInRange, pinsFree, boardOf, emptyJob, testNet, addBlock};
+ghost use Rattle.board.specs.Stored.{stored_of};
+ghost use Rattle.jobfile.specs.Read.{State, within, weight_in_range, net_in_range, with_weight, block_in_range, pins_free, board_of, empty_job, test_net, add_block};
 ghost use Rattle.jobfile.specs.Answers.{number_of, line_of};
-ghost use Rattle.jobrules.specs.Rules.{outcomeOf, RowsInRange, PinsOf, NetsAbove};
+ghost use Rattle.jobrules.specs.Rules.{outcome_of, RowsInRange, PinsOf, NetsAbove};
 
 use blockmap::BlockMap;
 use board::{Block, Board, Net, Row, StoredJob, Track};
@@ -60,7 +60,7 @@ pub fn line_of(outcome: Outcome) -> usize
 
 // A job without nets and blocks.
 pub fn empty_job(rows: usize, tracks: usize) -> StoredJob
-    ensures { result ≡ storedOf (emptyJob (boardOf rows tracks)) }
+    ensures { result ≡ stored_of (empty_job (board_of rows tracks)) }
 {
     let no_net = Net {
         number: 0,
@@ -96,7 +96,7 @@ pub fn is_within(lo: usize, hi: usize, x: usize) -> bool
 
 // Refusal 3 of a weight: whether one that is written is from 1 to 999.
 fn is_weight_in_range(weight: Optional) -> bool
-    ensures { result ≡ weightInRange weight }
+    ensures { result ≡ weight_in_range weight }
 {
     match weight {
         Optional::LeftOut => true,
@@ -106,7 +106,7 @@ fn is_weight_in_range(weight: Optional) -> bool
 
 // Refusal 3 of a net: whether its numbers and the weight that its line gives are in their ranges.
 fn is_net_in_range(size: Board, net: Net, weight: Optional) -> bool
-    ensures { result ≡ netInRange size net weight }
+    ensures { result ≡ net_in_range size net weight }
 {
     if !is_within(1, 9999, net.number) {
         return false;
@@ -128,7 +128,7 @@ fn is_net_in_range(size: Board, net: Net, weight: Optional) -> bool
 
 // Refusal 3 of a block: whether its numbers are in their ranges, and A ≤ B.
 fn is_block_in_range(size: Board, block: Block) -> bool
-    ensures { result ≡ blockInRange size block }
+    ensures { result ≡ block_in_range size block }
 {
     if !is_within(1, size.tracks, block.track.0) {
         return false;
@@ -146,7 +146,7 @@ fn is_block_in_range(size: Board, block: Block) -> bool
 pub fn with_weight(size: Board, net: Net, weight: Optional) -> Net
     requires board_in_range { BoardInRange size }
     requires net_in_range { NetInRange size net }
-    ensures { result ≡ withWeight size net weight }
+    ensures { result ≡ with_weight size net weight }
 {
     match weight {
         Optional::LeftOut => Net {
@@ -178,7 +178,7 @@ pub fn with_pins(used: &mut UsedPins, net: Net)
 // Refusal 6: whether neither pin of a net is used.
 fn are_pins_free(used: &UsedPins, net: Net) -> bool
     requires { RowsInRange net }
-    ensures { (nets : List Net) → PinsOf nets used.now → result ≡ all_of (pinsFree net) nets }
+    ensures { (nets : List Net) → PinsOf nets used.now → result ≡ all_of (pins_free net) nets }
 {
     if blockmap::is_blocked(&used.left.words, net.left) {
         return false;
@@ -198,7 +198,7 @@ pub fn net_outcome(
     line: usize,
 ) -> Outcome
     requires { BoardInRange size }
-    ensures { (job : Job) (s : State) → NetsAbove job size count used.now → result ≡ outcomeOf (testNet line numbered net weight job s) }
+    ensures { (job : Job) (s : State) → NetsAbove job size count used.now → result ≡ outcome_of (test_net line numbered net weight job s) }
 {
     if !is_net_in_range(size, net, weight) {
         return Outcome::OutOfRange(line);
@@ -227,7 +227,7 @@ pub fn net_outcome(
 
 // Refusals 3 and 4 of a block, on a board below so many blocks.
 pub fn block_outcome(size: Board, count: usize, block: Block, line: usize) -> Outcome
-    ensures { (job : Job) → job.board ≡ size → length job.blocks ≡ count → result ≡ outcomeOf (addBlock line block job) }
+    ensures { (job : Job) → job.board ≡ size → length job.blocks ≡ count → result ≡ outcome_of (add_block line block job) }
 {
     if !is_block_in_range(size, block) {
         return Outcome::OutOfRange(line);

@@ -12,24 +12,24 @@ use Rattle.board.specs.declared.Block.{Block}
 use Rattle.board.specs.declared.StoredJob.{StoredJob}
 use Rattle.board.specs.Job.{Job}
 use Rattle.board.specs.Accepted.{BoardInRange}
-use Rattle.board.specs.Stored.{job_of, storedOf}
+use Rattle.board.specs.Stored.{job_of, stored_of}
 use Rattle.jobfile.specs.declared.Optional.{Optional}
 use Rattle.jobfile.specs.declared.Form.{Form}
 use Rattle.jobfile.specs.declared.Form.TheVariants as Is
 use Rattle.jobfile.specs.declared.Outcome.{Outcome}
 use Rattle.jobfile.specs.declared.Outcome.TheVariants.{NotOfForm}
-use Rattle.jobfile.specs.Read.{State, start, opened, sized, filled, closed, Next, go, stop, unless, at_start, atOpened, atSized, atFilled, netGiven, block_of, boardOf, emptyJob, testNet, addNet, addBlock, step}
+use Rattle.jobfile.specs.Read.{State, start, opened, sized, filled, closed, Next, go, stop, unless, at_start, at_opened, at_sized, at_filled, net_given, block_of, board_of, empty_job, test_net, add_net, add_block, step}
 use Rattle.jobfile.specs.Answers.{number_of, line_of}
-use Rattle.jobfile.proofs.Tests.{within-is}
-use Rattle.board.proofs.StoredJobs.{job-back}
-use Rattle.jobsteps.specs.LinesAbove.{state_of, stageOf, value_of, Filled, FilledAt, Held}
-use Rattle.jobsteps.proofs.Slots.{nets-used, blocks-used}
+use Rattle.jobfile.proofs.Tests.{within_is}
+use Rattle.board.proofs.StoredJobs.{job_back}
+use Rattle.jobsteps.specs.LinesAbove.{state_of, stage_of, value_of, Filled, FilledAt, Held}
+use Rattle.jobsteps.proofs.Slots.{nets_used, blocks_used}
 
 -- a job whose size is in range and that has room for its nets and blocks
 pub record Sized (job : Job) : Type 0 where
-  pub board-range : BoardInRange job.board
-  pub nets-count : length job.nets ≤ 512
-  pub blocks-count : length job.blocks ≤ 256
+  pub board_range : BoardInRange job.board
+  pub nets_count : length job.nets ≤ 512
+  pub blocks_count : length job.blocks ≤ 256
 
 abbrev pub SizedState : State → Type 0
 SizedState start = Unit {0}
@@ -40,53 +40,53 @@ SizedState (closed job) = Sized job
 
 -- ---- the code holds a good state
 
-stored-filled : (job : Job) → Sized job → Filled (storedOf job)
-unfolding storedOf
-stored-filled job g =
+stored_filled : (job : Job) → Sized job → Filled (stored_of job)
+unfolding stored_of
+stored_filled job g =
     record {
-      stored = ap storedOf (job-back job);
-      board-range = g.board-range;
-      nets-count = g.nets-count;
-      blocks-count = g.blocks-count;
+      stored = ap stored_of (job_back job);
+      board_range = g.board_range;
+      nets_count = g.nets_count;
+      blocks_count = g.blocks_count;
     }
 
-pub state-back : (s : State) → state_of (stageOf s) (value_of s) ≡ s
-unfolding state_of stageOf value_of storedOf
-state-back start = refl
-state-back opened = refl
-state-back (sized h) = refl
-state-back (filled job) = ap filled (job-back job)
-state-back (closed job) = ap closed (job-back job)
+pub state_back : (s : State) → state_of (stage_of s) (value_of s) ≡ s
+unfolding state_of stage_of value_of stored_of
+state_back start = refl
+state_back opened = refl
+state_back (sized h) = refl
+state_back (filled job) = ap filled (job_back job)
+state_back (closed job) = ap closed (job_back job)
 
-ranges-of : (s : State) → SizedState s → FilledAt (stageOf s) (value_of s)
-unfolding stageOf value_of storedOf
-ranges-of start g = tt
-ranges-of opened g = tt
-ranges-of (sized h) g = g
-ranges-of (filled job) g = stored-filled job g
-ranges-of (closed job) g = stored-filled job g
+ranges_of : (s : State) → SizedState s → FilledAt (stage_of s) (value_of s)
+unfolding stage_of value_of stored_of
+ranges_of start g = tt
+ranges_of opened g = tt
+ranges_of (sized h) g = g
+ranges_of (filled job) g = stored_filled job g
+ranges_of (closed job) g = stored_filled job g
 
-pub held_of : (s : State) → SizedState s → Held (stageOf s) (value_of s)
-held_of s g = record { stage_is = ap stageOf (state-back s); value = ap value_of (state-back s); ranges = ranges-of s g }
+pub held_of : (s : State) → SizedState s → Held (stage_of s) (value_of s)
+held_of s g = record { stage_is = ap stage_of (state_back s); value = ap value_of (state_back s); ranges = ranges_of s g }
 
-filled-sized : (job : StoredJob) → Filled job → Sized (job_of job)
-filled-sized job f =
+filled_sized : (job : StoredJob) → Filled job → Sized (job_of job)
+filled_sized job f =
     record {
-      board-range = f.board-range;
-      nets-count = omega (arith, nets-used job f);
-      blocks-count = omega (arith, blocks-used job f);
+      board_range = f.board_range;
+      nets_count = omega (arith, nets_used job f);
+      blocks_count = omega (arith, blocks_used job f);
     }
 
-good-at : (stage : ℕ) (job : StoredJob) → FilledAt stage job → SizedState (state_of stage job)
+good_at : (stage : ℕ) (job : StoredJob) → FilledAt stage job → SizedState (state_of stage job)
 unfolding state_of
-good-at zero job r = tt
-good-at (suc zero) job r = tt
-good-at (suc (suc zero)) job r = r
-good-at (suc (suc (suc zero))) job r = filled-sized job r
-good-at (suc (suc (suc (suc stage)))) job r = filled-sized job r
+good_at zero job r = tt
+good_at (suc zero) job r = tt
+good_at (suc (suc zero)) job r = r
+good_at (suc (suc (suc zero))) job r = filled_sized job r
+good_at (suc (suc (suc (suc stage)))) job r = filled_sized job r
 
-pub held-good : (stage : ℕ) (job : StoredJob) → Held stage job → SizedState (state_of stage job)
-held-good stage job h = good-at stage job h.ranges
+pub held_good : (stage : ℕ) (job : StoredJob) → Held stage job → SizedState (state_of stage job)
+held_good stage job h = good_at stage job h.ranges
 
 -- ---- a line leads to a good state, or to a refusal on its line
 
@@ -94,88 +94,88 @@ abbrev pub LeadsOn : ℕ → Next → Type 0
 LeadsOn k (go s) = SizedState s
 LeadsOn k (stop o) = (number_of o ≡ 0 → ⊥) × (line_of o ≡ k)
 
-not-form : (k : ℕ) → LeadsOn k (stop (NotOfForm k))
-not-form k = (λ z. omega arith, refl)
+not_form : (k : ℕ) → LeadsOn k (stop (NotOfForm k))
+not_form k = (λ z. omega arith, refl)
 
-unless-sound : (k : ℕ) (b : Bool) (o : Outcome) (x : Next) → (number_of o ≡ 0 → ⊥) → line_of o ≡ k → (b ≡ true → LeadsOn k x) → LeadsOn k (unless b o x)
+unless_sound : (k : ℕ) (b : Bool) (o : Outcome) (x : Next) → (number_of o ≡ 0 → ⊥) → line_of o ≡ k → (b ≡ true → LeadsOn k x) → LeadsOn k (unless b o x)
 unfolding unless
-unless-sound k true o x h l f = f refl
-unless-sound k false o x h l f = (h, l)
+unless_sound k true o x h l f = f refl
+unless_sound k false o x h l f = (h, l)
 
-net-sound : (k : ℕ) (n : Net) (w : Optional) (job : Job) → Sized job → LeadsOn k (addNet k n w job)
-unfolding addNet testNet
-net-sound k n w job g =
-    unless-sound k _ _ _ (λ z. omega arith) refl (λ e3.
-    unless-sound k _ _ _ (λ z. omega arith) refl (λ e4.
-    unless-sound k _ _ _ (λ z. omega arith) refl (λ e5.
-    unless-sound k _ _ _ (λ z. omega arith) refl (λ e6.
-    unless-sound k _ _ _ (λ z. omega arith) refl (λ e7.
-    unless-sound k _ _ _ (λ z. omega arith) refl (λ e8.
-    unless-sound k _ _ _ (λ z. omega arith) refl (λ e9.
+net_sound : (k : ℕ) (n : Net) (w : Optional) (job : Job) → Sized job → LeadsOn k (add_net k n w job)
+unfolding add_net test_net
+net_sound k n w job g =
+    unless_sound k _ _ _ (λ z. omega arith) refl (λ e3.
+    unless_sound k _ _ _ (λ z. omega arith) refl (λ e4.
+    unless_sound k _ _ _ (λ z. omega arith) refl (λ e5.
+    unless_sound k _ _ _ (λ z. omega arith) refl (λ e6.
+    unless_sound k _ _ _ (λ z. omega arith) refl (λ e7.
+    unless_sound k _ _ _ (λ z. omega arith) refl (λ e8.
+    unless_sound k _ _ _ (λ z. omega arith) refl (λ e9.
     record {
-      board-range = g.board-range;
-      nets-count = omega (arith, length-append job.nets (n ∷ []), ltb-true (length job.nets) 512 e4);
-      blocks-count = g.blocks-count;
+      board_range = g.board_range;
+      nets_count = omega (arith, length-append job.nets (n ∷ []), ltb-true (length job.nets) 512 e4);
+      blocks_count = g.blocks_count;
     })))))))
 
-block-sound : (k : ℕ) (b : Block) (job : Job) → Sized job → LeadsOn k (addBlock k b job)
-unfolding addBlock
-block-sound k b job g =
-    unless-sound k _ _ _ (λ z. omega arith) refl (λ e3.
-    unless-sound k _ _ _ (λ z. omega arith) refl (λ e4.
+block_sound : (k : ℕ) (b : Block) (job : Job) → Sized job → LeadsOn k (add_block k b job)
+unfolding add_block
+block_sound k b job g =
+    unless_sound k _ _ _ (λ z. omega arith) refl (λ e3.
+    unless_sound k _ _ _ (λ z. omega arith) refl (λ e4.
     record {
-      board-range = g.board-range;
-      nets-count = g.nets-count;
-      blocks-count = omega (arith, length-append job.blocks (b ∷ []), ltb-true (length job.blocks) 256 e4);
+      board_range = g.board_range;
+      nets_count = g.nets_count;
+      blocks_count = omega (arith, length-append job.blocks (b ∷ []), ltb-true (length job.blocks) 256 e4);
     }))
 
-start-sound : (k : ℕ) (s : State) (x : Next) → LeadsOn k x → LeadsOn k (at_start k s x)
+start_sound : (k : ℕ) (s : State) (x : Next) → LeadsOn k x → LeadsOn k (at_start k s x)
 unfolding at_start
-start-sound k start x g = g
-start-sound k opened x g = not-form k
-start-sound k (sized h) x g = not-form k
-start-sound k (filled j) x g = not-form k
-start-sound k (closed j) x g = not-form k
+start_sound k start x g = g
+start_sound k opened x g = not_form k
+start_sound k (sized h) x g = not_form k
+start_sound k (filled j) x g = not_form k
+start_sound k (closed j) x g = not_form k
 
-opened-sound : (k : ℕ) (s : State) (x : Next) → LeadsOn k x → LeadsOn k (atOpened k s x)
-unfolding atOpened
-opened-sound k start x g = not-form k
-opened-sound k opened x g = g
-opened-sound k (sized h) x g = not-form k
-opened-sound k (filled j) x g = not-form k
-opened-sound k (closed j) x g = not-form k
+opened_sound : (k : ℕ) (s : State) (x : Next) → LeadsOn k x → LeadsOn k (at_opened k s x)
+unfolding at_opened
+opened_sound k start x g = not_form k
+opened_sound k opened x g = g
+opened_sound k (sized h) x g = not_form k
+opened_sound k (filled j) x g = not_form k
+opened_sound k (closed j) x g = not_form k
 
-sized-sound : (k : ℕ) (s : State) (f : ℕ → Next) → SizedState s → ((h : ℕ) → SizedState (sized h) → LeadsOn k (f h)) → LeadsOn k (atSized k s f)
-unfolding atSized
-sized-sound k start f a g = not-form k
-sized-sound k opened f a g = not-form k
-sized-sound k (sized h) f a g = g h a
-sized-sound k (filled j) f a g = not-form k
-sized-sound k (closed j) f a g = not-form k
+sized_sound : (k : ℕ) (s : State) (f : ℕ → Next) → SizedState s → ((h : ℕ) → SizedState (sized h) → LeadsOn k (f h)) → LeadsOn k (at_sized k s f)
+unfolding at_sized
+sized_sound k start f a g = not_form k
+sized_sound k opened f a g = not_form k
+sized_sound k (sized h) f a g = g h a
+sized_sound k (filled j) f a g = not_form k
+sized_sound k (closed j) f a g = not_form k
 
-filled-sound : (k : ℕ) (s : State) (f : Job → Next) → SizedState s → ((j : Job) → Sized j → LeadsOn k (f j)) → LeadsOn k (atFilled k s f)
-unfolding atFilled
-filled-sound k start f a g = not-form k
-filled-sound k opened f a g = not-form k
-filled-sound k (sized h) f a g = not-form k
-filled-sound k (filled j) f a g = g j a
-filled-sound k (closed j) f a g = not-form k
+filled_sound : (k : ℕ) (s : State) (f : Job → Next) → SizedState s → ((j : Job) → Sized j → LeadsOn k (f j)) → LeadsOn k (at_filled k s f)
+unfolding at_filled
+filled_sound k start f a g = not_form k
+filled_sound k opened f a g = not_form k
+filled_sound k (sized h) f a g = not_form k
+filled_sound k (filled j) f a g = g j a
+filled_sound k (closed j) f a g = not_form k
 
-empty-sized : (h t : ℕ) → (1 ≤ h) × (h ≤ 1024) → (1 ≤ t) × (t ≤ 128) → Sized (emptyJob (boardOf h t))
-empty-sized h t a b =
-    record { board-range = record { rows-range = a; tracks-range = b }; nets-count = omega arith; blocks-count = omega arith }
+empty_sized : (h t : ℕ) → (1 ≤ h) × (h ≤ 1024) → (1 ≤ t) × (t ≤ 128) → Sized (empty_job (board_of h t))
+empty_sized h t a b =
+    record { board_range = record { rows_range = a; tracks_range = b }; nets_count = omega arith; blocks_count = omega arith }
 
-pub step-sound : (k : ℕ) (s : State) (x : Form) → SizedState s → LeadsOn k (step k s x)
+pub step_sound : (k : ℕ) (s : State) (x : Form) → SizedState s → LeadsOn k (step k s x)
 unfolding step
-step-sound k s Is.Blank g = g
-step-sound k s Is.Board g = start-sound k s (go opened) tt
-step-sound k s (Is.Rows h) g =
-    opened-sound k s _ (unless-sound k _ _ (go (sized h)) (λ z. omega arith) refl (λ e. (within-is 1 1024 h).0 e))
-step-sound k s (Is.Tracks t) g =
-    sized-sound k s _ g (λ h r.
-    unless-sound k _ _ (go (filled (emptyJob (boardOf h t)))) (λ z. omega arith) refl (λ e. empty-sized h t r ((within-is 1 128 t).0 e)))
-step-sound k s (Is.Net i l r lo hi w) g =
-    filled-sound k s _ g (λ j a. net-sound k (netGiven j.board i l r lo hi w) w j a)
-step-sound k s (Is.Block t a b) g = filled-sound k s _ g (λ j c. block-sound k (block_of t a b) j c)
-step-sound k s Is.Close g = filled-sound k s _ g (λ j a. a)
-step-sound k s Is.Other g = not-form k
+step_sound k s Is.Blank g = g
+step_sound k s Is.Board g = start_sound k s (go opened) tt
+step_sound k s (Is.Rows h) g =
+    opened_sound k s _ (unless_sound k _ _ (go (sized h)) (λ z. omega arith) refl (λ e. (within_is 1 1024 h).0 e))
+step_sound k s (Is.Tracks t) g =
+    sized_sound k s _ g (λ h r.
+    unless_sound k _ _ (go (filled (empty_job (board_of h t)))) (λ z. omega arith) refl (λ e. empty_sized h t r ((within_is 1 128 t).0 e)))
+step_sound k s (Is.Net i l r lo hi w) g =
+    filled_sound k s _ g (λ j a. net_sound k (net_given j.board i l r lo hi w) w j a)
+step_sound k s (Is.Block t a b) g = filled_sound k s _ g (λ j c. block_sound k (block_of t a b) j c)
+step_sound k s Is.Close g = filled_sound k s _ g (λ j a. a)
+step_sound k s Is.Other g = not_form k

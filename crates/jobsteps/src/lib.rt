@@ -4,9 +4,9 @@
 ghost use Rattle.std.specs.Prelude.{◌≡◌, ◌<◌};
 ghost use Rattle.board.specs.declared.StoredJob.{StoredJob};
 ghost use Rattle.board.specs.Accepted.{BoardInRange};
-ghost use Rattle.jobfile.specs.Read.{State, within, netOf, block_of, unless, go, step};
-ghost use Rattle.jobrules.specs.Rules.{outcomeOf, RowsInRange};
-ghost use Rattle.jobsteps.specs.LinesAbove.{formStands, entry_of, headAfter, state_of, NothingAbove, AboveOf, NetAfter};
+ghost use Rattle.jobfile.specs.Read.{State, within, net_of, block_of, unless, go, step};
+ghost use Rattle.jobrules.specs.Rules.{outcome_of, RowsInRange};
+ghost use Rattle.jobsteps.specs.LinesAbove.{form_stands, entry_of, head_after, state_of, NothingAbove, AboveOf, NetAfter};
 
 use board::{Block, Board, Net, Row, Track};
 use jobfile::{Form, Optional, Outcome};
@@ -76,7 +76,7 @@ pub fn net_after(above: &mut LinesAbove, net: Net)
 
 // Holds a line that gives neither a net nor a block: the next stage, and H and K where the line has them.
 pub fn head_after(above: &mut LinesAbove, form: Form)
-    ensures { above.new ≡ headAfter above.old form }
+    ensures { above.new ≡ head_after above.old form }
 {
     match form {
         Form::Blank => {}
@@ -99,7 +99,7 @@ pub fn head_after(above: &mut LinesAbove, form: Form)
 
 // The net of a line by its numbers, still without a weight.
 fn net_on_line(number: usize, left: usize, right: usize, min: usize, max: usize) -> Net
-    ensures { result ≡ netOf number left right min max 0 }
+    ensures { result ≡ net_of number left right min max 0 }
 {
     Net {
         number,
@@ -142,7 +142,7 @@ pub fn entry_of(form: Form) -> Entry
 
 // Whether a line of this form may stand at a stage: refusal 2.
 fn form_stands(stage: usize, form: Form) -> bool
-    ensures { result ≡ formStands stage form }
+    ensures { result ≡ form_stands stage form }
 {
     match form {
         Form::Blank => true,
@@ -158,7 +158,7 @@ fn form_stands(stage: usize, form: Form) -> bool
 
 // Refusal 3 of H or K: it has to be from 1 to `most`.
 fn size_outcome(most: usize, x: usize, line: usize) -> Outcome
-    ensures { (s : State) → result ≡ outcomeOf (unless (within 1 most x) (Outcome.OutOfRange line) (go s)) }
+    ensures { (s : State) → result ≡ outcome_of (unless (within 1 most x) (Outcome.OutOfRange line) (go s)) }
 {
     if !jobrules::is_within(1, most, x) {
         return Outcome::OutOfRange(line);
@@ -169,7 +169,7 @@ fn size_outcome(most: usize, x: usize, line: usize) -> Outcome
 // Refusals 2 to 9 of a line, the first that fits.
 pub fn form_outcome(above: &LinesAbove, form: Form, line: usize) -> Outcome
     requires { above.now.stage ≡ 3 → BoardInRange above.now.board }
-    ensures { (job : StoredJob) → AboveOf above.now job → result ≡ outcomeOf (step line (state_of above.now.stage job) form) }
+    ensures { (job : StoredJob) → AboveOf above.now job → result ≡ outcome_of (step line (state_of above.now.stage job) form) }
 {
     if !form_stands(above.stage, form) {
         return Outcome::NotOfForm(line);

@@ -7,12 +7,12 @@ pub mod wires;
 ghost use Rattle.std.specs.Prelude.{◌≡◌, List, ℕ, ◌-◌, ◌≤◌, length};
 ghost use Rattle.board.specs.Job.{Job};
 ghost use Rattle.board.specs.Accepted.{AcceptedJob};
-ghost use Rattle.candidates.specs.Placed.{indexFrom};
+ghost use Rattle.candidates.specs.Placed.{index_from};
 ghost use Rattle.layout.specs.Tree as Tree;
 ghost use Rattle.layout.specs.Tree.{opens, loose, closes};
-ghost use Rattle.drc.specs.Pass.{PassState, passLine};
+ghost use Rattle.drc.specs.Pass.{PassState, pass_line};
 ghost use Rattle.judging.specs.Judged.{KeepsState, KeepsStep, JudgedInRange, LineInRange};
-ghost use Rattle.judging.specs.Values.{isNumbered, allLined, notBegun, brokenOff, closedOf, settled_of, isTrackTurn, isWireTurn, isEndTurn};
+ghost use Rattle.judging.specs.Values.{is_numbered, all_lined, not_begun, broken_off, closed_of, settled_of, is_track_turn, is_wire_turn, is_end_turn};
 
 use board::{Net, Row, Track};
 
@@ -57,7 +57,7 @@ pub struct NetFound {
 // Whether each of the `count` nets has a line above.
 pub fn all_lined(stands: &[usize; 512], count: usize) -> bool
     requires { count ≤ 512 }
-    ensures { result ≡ allLined stands.now count }
+    ensures { result ≡ all_lined stands.now count }
 {
     for i in 0..count {
         if stands[i] == 0 {
@@ -69,7 +69,7 @@ pub fn all_lined(stands: &[usize; 512], count: usize) -> bool
 
 // Nothing stands above.
 pub fn unbegun() -> LinesJudged
-    ensures { result ≡ notBegun }
+    ensures { result ≡ not_begun }
 {
     LinesJudged {
         stage: UNBEGUN,
@@ -85,7 +85,7 @@ pub fn unbegun() -> LinesJudged
 
 // The verdict stands: the layout is broken at a line.
 fn broken(line: usize) -> LinesJudged
-    ensures { result ≡ brokenOff line }
+    ensures { result ≡ broken_off line }
 {
     LinesJudged {
         stage: DECIDED,
@@ -102,7 +102,7 @@ fn broken(line: usize) -> LinesJudged
 // The judging closes at a line that is not of the form or cannot stand there: the layout is broken at the first broken wire of the track
 // above, or at that line.
 pub fn closed(m: LinesJudged, line: usize) -> LinesJudged
-    ensures { result ≡ closedOf m line }
+    ensures { result ≡ closed_of m line }
 {
     if m.breach == 0 {
         return broken(line);
@@ -126,28 +126,28 @@ fn settled(m: LinesJudged) -> LinesJudged
 // Whether the line of a track comes in turn, on a board with so many tracks.
 fn is_track_turn(tracks: usize, m: LinesJudged, track: Track) -> bool
     requires { m.track.0 ≤ 128 }
-    ensures { result ≡ isTrackTurn tracks m track.0 }
+    ensures { result ≡ is_track_turn tracks m track.0 }
 {
     (m.stage == RUNNING) & ((m.last == 0) & ((track.0 == m.track.0 + 1) & (track.0 <= tracks)))
 }
 
 // Whether a wire can stand behind the lines above.
 pub fn is_wire_turn(tracks: usize, m: LinesJudged) -> bool
-    ensures { result ≡ isWireTurn tracks m }
+    ensures { result ≡ is_wire_turn tracks m }
 {
     (m.stage == RUNNING) & ((m.last == 0) & (1 <= m.track.0) & (m.track.0 <= tracks))
 }
 
 // Whether a loose line or the closing line can stand behind the lines above.
 fn is_end_turn(tracks: usize, m: LinesJudged) -> bool
-    ensures { result ≡ isEndTurn tracks m }
+    ensures { result ≡ is_end_turn tracks m }
 {
     (m.stage == RUNNING) & (m.track.0 == tracks)
 }
 
 // What the opening line leads to.
 pub fn take_opening(m: LinesJudged, line: usize) -> LinesJudged
-    ensures keeps_step { (job : Job) (st : PassState) (stands : List ℕ) → KeepsState job st m stands → KeepsStep job (passLine job line st opens) result stands }
+    ensures keeps_step { (job : Job) (st : PassState) (stands : List ℕ) → KeepsState job st m stands → KeepsStep job (pass_line job line st opens) result stands }
     ensures judged_in_range { JudgedInRange line result }
 {
     if m.stage != UNBEGUN {
@@ -171,7 +171,7 @@ pub fn take_track(
     requires line_in_range { LineInRange line }
     requires judged_in_range { JudgedInRange (line - 1) m }
     requires tracks_bound { tracks ≤ 128 }
-    ensures keeps_step { (job : Job) (st : PassState) (stands : List ℕ) → job.board.tracks ≡ tracks → KeepsState job st m stands → KeepsStep job (passLine job line st (Tree.track track.0 printed)) result stands }
+    ensures keeps_step { (job : Job) (st : PassState) (stands : List ℕ) → job.board.tracks ≡ tracks → KeepsState job st m stands → KeepsStep job (pass_line job line st (Tree.track track.0 printed)) result stands }
     ensures judged_in_range_2 { JudgedInRange line result }
 {
     if !is_track_turn(tracks, m, track) {
@@ -205,7 +205,7 @@ pub fn take_loose(
     requires line_in_range { LineInRange line }
     requires judged_in_range { JudgedInRange (line - 1) m }
     requires le_tracks { (1 ≤ tracks) × (index ≤ 512) }
-    ensures keeps_step { (job : Job) (st : PassState) → AcceptedJob job → job.board.tracks ≡ tracks → index ≡ indexFrom (isNumbered number) 0 job.nets → KeepsState job st m stands.old → KeepsStep job (passLine job line st (loose number)) result stands.new }
+    ensures keeps_step { (job : Job) (st : PassState) → AcceptedJob job → job.board.tracks ≡ tracks → index ≡ index_from (is_numbered number) 0 job.nets → KeepsState job st m stands.old → KeepsStep job (pass_line job line st (loose number)) result stands.new }
     ensures judged_in_range_2 { JudgedInRange line result }
 {
     if !is_end_turn(tracks, m) {
@@ -239,7 +239,7 @@ pub fn take_closing(
     requires line_in_range { LineInRange line }
     requires judged_in_range { JudgedInRange (line - 1) m }
     requires count_bound { count ≤ 512 }
-    ensures keeps_step { (job : Job) (st : PassState) → AcceptedJob job → job.board.tracks ≡ tracks → length job.nets ≡ count → KeepsState job st m stands.now → KeepsStep job (passLine job line st closes) result stands.now }
+    ensures keeps_step { (job : Job) (st : PassState) → AcceptedJob job → job.board.tracks ≡ tracks → length job.nets ≡ count → KeepsState job st m stands.now → KeepsStep job (pass_line job line st closes) result stands.now }
     ensures judged_in_range_2 { JudgedInRange line result }
 {
     if !is_end_turn(tracks, m) {

@@ -2,8 +2,8 @@
 ghost use Rattle.std.specs.Prelude.{◌≡◌, List, map, ◌≤◌, length, take};
 ghost use Rattle.board.specs.declared.Net.{Net};
 ghost use Rattle.board.specs.Stored.{job_of, AcceptedStored};
-ghost use Rattle.candidates.specs.Placed.{padded, indexFrom};
-ghost use Rattle.judging.specs.Values.{isNumbered};
+ghost use Rattle.candidates.specs.Placed.{padded, index_from};
+ghost use Rattle.judging.specs.Values.{is_numbered};
 
 use board::StoredJob;
 
@@ -22,7 +22,7 @@ pub fn numbers_of(job: &StoredJob) -> [usize; 512]
 // The index of the net with a number, 512 if no net has it.
 pub fn net_index(numbers: &[usize; 512], count: usize, number: usize) -> usize
     requires { count ≤ 512 }
-    ensures { (ns : List Net) → length ns ≡ count → take count numbers.now ≡ map (λ n. n.number) ns → result ≡ indexFrom (isNumbered number) 0 ns }
+    ensures { (ns : List Net) → length ns ≡ count → take count numbers.now ≡ map (λ n. n.number) ns → result ≡ index_from (is_numbered number) 0 ns }
 {
     for i in 0..count {
         if numbers[i] == number {

@@ -3,14 +3,14 @@ ghost use Rattle.std.specs.Prelude.{◌≡◌, List, ℕ, ◌+◌, ◌-◌, ◌�
 ghost use Rattle.std.proofs.Math.Option.{none, some};
 ghost use Rattle.board.specs.Job.{Job};
 ghost use Rattle.board.specs.Length.{extra};
-ghost use Rattle.board.specs.Placement.{placementAt};
+ghost use Rattle.board.specs.Placement.{placement_at};
 ghost use Rattle.board.specs.Accepted.{BoardInRange, AcceptedNet, AcceptedJob};
-ghost use Rattle.blockmap.specs.Clear.{allUnset};
+ghost use Rattle.blockmap.specs.Clear.{all_unset};
 ghost use Rattle.layout.specs.Tree.{Wire};
-ghost use Rattle.sound.specs.Wires.{weightOf};
-ghost use Rattle.drc.specs.Pass.{Summary, addWire};
+ghost use Rattle.sound.specs.Wires.{weight_of};
+ghost use Rattle.drc.specs.Pass.{Summary, add_wire};
 ghost use Rattle.judging.specs.Judged.{KeepsSummary, JudgedInRange, LineInRange};
-ghost use Rattle.judging.specs.Values.{isAllowed, readyAt, isNextAt, firstBreach, NetIs, NetFits, MapOf};
+ghost use Rattle.judging.specs.Values.{is_allowed, ready_at, is_next_at, first_breach, NetIs, NetFits, MapOf};
 
 use crate::{LinesJudged, NetFound};
 use board::{Board, Net, Row, Shape, Track};
@@ -18,7 +18,7 @@ use board::{Board, Net, Row, Shape, Track};
 // Whether none of the `rows` rows from `top` on is blocked.
 pub fn rows_clear(words: &[u64; 16], top: Row, rows: usize) -> bool
     requires { (1 ≤ top.0) × (top.0 + rows ≤ 1025) }
-    ensures { result ≡ allUnset words.now top.0 rows }
+    ensures { result ≡ all_unset words.now top.0 rows }
 {
     let start = top.0;
     let end = start + rows;
@@ -35,7 +35,7 @@ pub fn is_allowed(board: Board, net: Net, shape: Shape) -> bool
     requires board_in_range { BoardInRange board }
     requires accepted_net { AcceptedNet board net }
     requires shape_bound { extra shape ≤ 2048 }
-    ensures { result ≡ isAllowed board net shape }
+    ensures { result ≡ is_allowed board net shape }
 {
     let length = board::length_of(board, net, shape);
     if length < net.min {
@@ -47,7 +47,7 @@ pub fn is_allowed(board: Board, net: Net, shape: Shape) -> bool
 // Whether the net that precedes a net, if one does, has its line on an earlier track.
 pub fn is_ready(before: usize, stands: &[usize; 512], track: Track) -> bool
     requires { before ≤ 512 }
-    ensures { result ≡ readyAt before stands.now track.0 }
+    ensures { result ≡ ready_at before stands.now track.0 }
 {
     if before == 512 {
         return true;
@@ -70,7 +70,7 @@ pub fn may_stand<'a>(
     shape: Shape,
 ) -> bool
     requires { NetFits board found top.0 shape }
-    ensures { result ≡ isNextAt board words.now stands.now found m top.0 shape }
+    ensures { result ≡ is_next_at board words.now stands.now found m top.0 shape }
 {
     let net = found.net;
     let index = found.index;
@@ -91,7 +91,7 @@ pub fn may_stand<'a>(
 
 // The line of the first broken wire of a track behind one more wire, 0 if none is broken.
 fn first_breach(breach: usize, passed: bool, line: usize) -> usize
-    ensures { result ≡ firstBreach breach passed line }
+    ensures { result ≡ first_breach breach passed line }
 {
     if breach != 0 {
         return breach;
@@ -107,7 +107,7 @@ pub fn add_undrawn(m: LinesJudged, line: usize, weight: usize) -> LinesJudged
     requires line_in_range { LineInRange line }
     requires judged_in_range { JudgedInRange (line - 1) m }
     requires weight_bound { weight ≤ 4096 }
-    ensures keeps_summary { (job : Job) (s : Summary) (w : Wire) (before after : List ℕ) → weightOf job w.number ≡ weight → KeepsSummary job s m before → KeepsSummary job (addWire job line w none s) result after }
+    ensures keeps_summary { (job : Job) (s : Summary) (w : Wire) (before after : List ℕ) → weight_of job w.number ≡ weight → KeepsSummary job s m before → KeepsSummary job (add_wire job line w none s) result after }
     ensures judged_in_range_2 { JudgedInRange line result }
 {
     let breach = first_breach(m.breach, false, line);
@@ -132,7 +132,7 @@ pub fn add_drawn(
     requires line_in_range { LineInRange line }
     requires judged_in_range { JudgedInRange (line - 1) m }
     requires net_fits { NetFits board found top.0 shape }
-    ensures keeps_summary { (job : Job) (s : Summary) (w : Wire) → AcceptedJob job → job.board ≡ board → NetIs job found → found.net.number ≡ w.number → MapOf job m.track.0 words.now → 1 ≤ m.track.0 → KeepsSummary job s m stands.old → KeepsSummary job (addWire job line w (some (placementAt found.net shape top.0)) s) result stands.new }
+    ensures keeps_summary { (job : Job) (s : Summary) (w : Wire) → AcceptedJob job → job.board ≡ board → NetIs job found → found.net.number ≡ w.number → MapOf job m.track.0 words.now → 1 ≤ m.track.0 → KeepsSummary job s m stands.old → KeepsSummary job (add_wire job line w (some (placement_at found.net shape top.0)) s) result stands.new }
     ensures judged_in_range_2 { JudgedInRange line result }
 {
     let net = found.net;

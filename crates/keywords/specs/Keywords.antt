@@ -5,55 +5,55 @@ use Rattle.keywords.specs.declared.Vocabulary.{Vocabulary}
 use Rattle.keywords.specs.declared.Vocabulary.TheVariants.{Job, Layout}
 
 -- board
-abbrev pub boardWord : List ℕ
-boardWord = 98 ∷ 111 ∷ 97 ∷ 114 ∷ 100 ∷ []
+abbrev pub board_word : List ℕ
+board_word = 98 ∷ 111 ∷ 97 ∷ 114 ∷ 100 ∷ []
 
 -- rows
-abbrev pub rowsWord : List ℕ
-rowsWord = 114 ∷ 111 ∷ 119 ∷ 115 ∷ []
+abbrev pub rows_word : List ℕ
+rows_word = 114 ∷ 111 ∷ 119 ∷ 115 ∷ []
 
 -- tracks
-abbrev pub tracksWord : List ℕ
-tracksWord = 116 ∷ 114 ∷ 97 ∷ 99 ∷ 107 ∷ 115 ∷ []
+abbrev pub tracks_word : List ℕ
+tracks_word = 116 ∷ 114 ∷ 97 ∷ 99 ∷ 107 ∷ 115 ∷ []
 
 -- net
-abbrev pub netWord : List ℕ
-netWord = 110 ∷ 101 ∷ 116 ∷ []
+abbrev pub net_word : List ℕ
+net_word = 110 ∷ 101 ∷ 116 ∷ []
 
 -- block
-abbrev pub blockWord : List ℕ
-blockWord = 98 ∷ 108 ∷ 111 ∷ 99 ∷ 107 ∷ []
+abbrev pub block_word : List ℕ
+block_word = 98 ∷ 108 ∷ 111 ∷ 99 ∷ 107 ∷ []
 
 -- layout
-abbrev pub layoutWord : List ℕ
-layoutWord = 108 ∷ 97 ∷ 121 ∷ 111 ∷ 117 ∷ 116 ∷ []
+abbrev pub layout_word : List ℕ
+layout_word = 108 ∷ 97 ∷ 121 ∷ 111 ∷ 117 ∷ 116 ∷ []
 
 -- track
-abbrev pub trackWord : List ℕ
-trackWord = 116 ∷ 114 ∷ 97 ∷ 99 ∷ 107 ∷ []
+abbrev pub track_word : List ℕ
+track_word = 116 ∷ 114 ∷ 97 ∷ 99 ∷ 107 ∷ []
 
 -- wire
-abbrev pub wireWord : List ℕ
-wireWord = 119 ∷ 105 ∷ 114 ∷ 101 ∷ []
+abbrev pub wire_word : List ℕ
+wire_word = 119 ∷ 105 ∷ 114 ∷ 101 ∷ []
 
 -- loose
-abbrev pub looseWord : List ℕ
-looseWord = 108 ∷ 111 ∷ 111 ∷ 115 ∷ 101 ∷ []
+abbrev pub loose_word : List ℕ
+loose_word = 108 ∷ 111 ∷ 111 ∷ 115 ∷ 101 ∷ []
 
 -- the words that open a form of a job, and those that open a line of a layout
 abbrev pub words : Vocabulary → List (List ℕ)
-words Job = boardWord ∷ rowsWord ∷ tracksWord ∷ netWord ∷ blockWord ∷ []
-words Layout = layoutWord ∷ trackWord ∷ wireWord ∷ looseWord ∷ []
+words Job = board_word ∷ rows_word ∷ tracks_word ∷ net_word ∷ block_word ∷ []
+words Layout = layout_word ∷ track_word ∷ wire_word ∷ loose_word ∷ []
 
 -- the word at place i of its table, counted from 0; empty behind the last
 unfoldable pub word_of : Vocabulary → ℕ → List ℕ
 word_of v i = get_or (words v) i []
 
 -- the place of the first of these words that is s, where the first of them has place i; or the place after the last
-unfoldable pub findFrom : ℕ → List (List ℕ) → List ℕ → ℕ
-findFrom i [] s = i
-findFrom i (w ∷ ws) s = let more = findFrom (suc i) ws s in cond (same s w) i more
+unfoldable pub find_from : ℕ → List (List ℕ) → List ℕ → ℕ
+find_from i [] s = i
+find_from i (w ∷ ws) s = let more = find_from (suc i) ws s in cond (same s w) i more
 
 -- the place of the word s in its table, or how many words the table has
-unfoldable pub findWord : Vocabulary → List ℕ → ℕ
-findWord v s = findFrom 0 (words v) s
+unfoldable pub find_word : Vocabulary → List ℕ → ℕ
+find_word v s = find_from 0 (words v) s

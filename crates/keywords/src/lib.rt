@@ -4,7 +4,7 @@
 ghost use Rattle.std.specs.Prelude.{◌≡◌, ◌+◌, ◌≤◌, ◌<◌, length, get_or};
 ghost use Rattle.text.specs.Bytes.{same};
 ghost use Rattle.text.specs.Written.{Written, WrittenAt};
-ghost use Rattle.keywords.specs.Keywords.{words, word_of, findWord};
+ghost use Rattle.keywords.specs.Keywords.{words, word_of, find_word};
 
 // Whose words are meant: those that open a form of a job, or a line of a layout.
 #[derive(Clone, Copy)]
@@ -111,7 +111,7 @@ pub fn is_word(s: &[u8], v: Vocabulary, i: usize) -> bool
 
 // The index of the word that s is, or how many words there are.
 pub fn find_word(v: Vocabulary, s: &[u8]) -> usize
-    ensures { result ≡ findWord v s.now }
+    ensures { result ≡ find_word v s.now }
 {
     let n = word_count(v);
     let mut i = 0;

@@ -9,200 +9,200 @@ use lib.ListN.{get_or, drop}
 use borrow.Author.Tests.{ne_eqb}
 use Rattle.lists.specs.Lists.{all_of}
 use Rattle.lists.proofs.Cases.{and_split}
-use Rattle.text.specs.Bytes.{same, joined, pieces, nonEmpty, lines, isEnd, endsWord}
-use Rattle.text.specs.Digits.{digits, valueFrom}
-use Rattle.lists.proofs.Joins.{allOf-append}
-use Rattle.text.proofs.Bytes.{same_refl, same_true, piece_then, nonEmpty-some}
-use Rattle.text.proofs.Numbers.{allOf-digits, some-digits, value-digits}
-use Rattle.keywords.specs.Keywords.{layoutWord, trackWord, wireWord, looseWord}
+use Rattle.text.specs.Bytes.{same, joined, pieces, non_empty, lines, is_end, ends_word}
+use Rattle.text.specs.Digits.{digits, value_from}
+use Rattle.lists.proofs.Joins.{all_of_append}
+use Rattle.text.proofs.Bytes.{same_refl, same_true, piece_then, non_empty_some}
+use Rattle.text.proofs.Numbers.{all_of_digits, some_digits, value_digits}
+use Rattle.keywords.specs.Keywords.{layout_word, track_word, wire_word, loose_word}
 use Rattle.layout.specs.Tree.{Point, Wire, DrawnTrack, Layout, Line, opens, track, wire, loose, closes}
-use Rattle.layout.specs.LayoutText.{pointsThen, lineText, linesText, wiresThen, tracksThen, looseThen, layoutLines, layoutText}
-use Rattle.layout.specs.ReadBack.{words_in, points_of, lineFrom, roughLine, Part, add, gathered, roughLayout, smallLine, smallLines, readLine, readLayout}
+use Rattle.layout.specs.LayoutText.{points_then, line_text, lines_text, wires_then, tracks_then, loose_then, layout_lines, layout_text}
+use Rattle.layout.specs.ReadBack.{words_in, points_of, line_from, rough_line, Part, add, gathered, rough_layout, small_line, small_lines, read_line, read_layout}
 
 -- no line holds a byte 10
 
 unfoldable pub plain : ℕ → Bool
-plain b = not (isEnd b)
+plain b = not (is_end b)
 
-plain-digit : (d : ℕ) → d < 10 → plain (48 + d) ≡ true
+plain_digit : (d : ℕ) → d < 10 → plain (48 + d) ≡ true
 unfolding plain
-plain-digit d h = rw (ne_eqb (48 + d) 10 (λ e. omega arith))
+plain_digit d h = rw (ne_eqb (48 + d) 10 (λ e. omega arith))
 
 plain_then : (n : ℕ) (rest : List ℕ) → all_of plain (digits n ++ rest) ≡ all_of plain rest
-plain_then n rest = rw (allOf-append, allOf-digits plain plain-digit n)
+plain_then n rest = rw (all_of_append, all_of_digits plain plain_digit n)
 
-pub plain-points : (ps : List Point) (rest : List ℕ) → all_of plain (pointsThen ps rest) ≡ all_of plain rest
-unfolding all_of pointsThen plain
-plain-points [] rest = refl
-plain-points (p ∷ ps) rest = rw (plain_then p.column, plain_then p.row, plain-points ps rest)
+pub plain_points : (ps : List Point) (rest : List ℕ) → all_of plain (points_then ps rest) ≡ all_of plain rest
+unfolding all_of points_then plain
+plain_points [] rest = refl
+plain_points (p ∷ ps) rest = rw (plain_then p.column, plain_then p.row, plain_points ps rest)
 
-pub plain-line : (x : Line) → all_of plain (lineText x) ≡ true
-unfolding all_of lineText plain
-plain-line opens = refl
-plain-line (track t n) = rw (plain_then t, plain_then n)
-plain-line (wire w) = rw (plain_then w.number, plain-points w.points)
-plain-line (loose n) = rw (plain_then n)
-plain-line closes = refl
+pub plain_line : (x : Line) → all_of plain (line_text x) ≡ true
+unfolding all_of line_text plain
+plain_line opens = refl
+plain_line (track t n) = rw (plain_then t, plain_then n)
+plain_line (wire w) = rw (plain_then w.number, plain_points w.points)
+plain_line (loose n) = rw (plain_then n)
+plain_line closes = refl
 
-pub lines-text : (xs : List Line) → lines (linesText xs) ≡ map lineText xs
-unfolding linesText pieces
-lines-text [] = refl
-lines-text (x ∷ xs) = piece_then isEnd (lineText x) 10 (linesText xs) (unfold plain in plain-line x) refl ∙ ap (λ (ls : List (List ℕ)). lineText x ∷ ls) (lines-text xs)
+pub lines_text_lem : (xs : List Line) → lines (lines_text xs) ≡ map line_text xs
+unfolding lines_text pieces
+lines_text_lem [] = refl
+lines_text_lem (x ∷ xs) = piece_then is_end (line_text x) 10 (lines_text xs) (unfold plain in plain_line x) refl ∙ ap (λ (ls : List (List ℕ)). line_text x ∷ ls) (lines_text_lem xs)
 
 -- the words of a line are its keyword and its numbers
 
 inner : ℕ → Bool
-inner b = not (endsWord b)
+inner b = not (ends_word b)
 
-inner-digit : (d : ℕ) → d < 10 → inner (48 + d) ≡ true
+inner_digit : (d : ℕ) → d < 10 → inner (48 + d) ≡ true
 unfolding inner
-inner-digit d h = rw (ne_eqb (48 + d) 32 (λ e. omega arith), ne_eqb (48 + d) 40 (λ e. omega arith), ne_eqb (48 + d) 41 (λ e. omega arith))
+inner_digit d h = rw (ne_eqb (48 + d) 32 (λ e. omega arith), ne_eqb (48 + d) 40 (λ e. omega arith), ne_eqb (48 + d) 41 (λ e. omega arith))
 
 -- no byte of a number ends a word
-pub digits-inner : (n : ℕ) → all_of (λ b. not (endsWord b)) (digits n) ≡ true
+pub digits_inner : (n : ℕ) → all_of (λ b. not (ends_word b)) (digits n) ≡ true
 unfolding inner
-digits-inner n = allOf-digits inner inner-digit n
+digits_inner n = all_of_digits inner inner_digit n
 
-word-then : (n c : ℕ) (rest : List ℕ) → endsWord c ≡ true → words_in (digits n ++ c ∷ rest) ≡ digits n ∷ words_in rest
+word_then : (n c : ℕ) (rest : List ℕ) → ends_word c ≡ true → words_in (digits n ++ c ∷ rest) ≡ digits n ∷ words_in rest
 unfolding words_in
-word-then n c rest e =
-    ap nonEmpty (piece_then endsWord (digits n) c rest (digits-inner n) e)
-    ∙ nonEmpty-some (digits n) (pieces endsWord rest) (some-digits n)
+word_then n c rest e =
+    ap non_empty (piece_then ends_word (digits n) c rest (digits_inner n) e)
+    ∙ non_empty_some (digits n) (pieces ends_word rest) (some_digits n)
 
-pointWords : List Point → List (List ℕ)
-pointWords [] = []
-pointWords (p ∷ ps) = digits p.column ∷ digits p.row ∷ pointWords ps
+point_words : List Point → List (List ℕ)
+point_words [] = []
+point_words (p ∷ ps) = digits p.column ∷ digits p.row ∷ point_words ps
 
 -- the words of a text that begins with a point are its two numbers, and those of the rest
-pub words-point : (p : Point) (rest : List ℕ) →
+pub words_point : (p : Point) (rest : List ℕ) →
     words_in (32 ∷ 40 ∷ (digits p.column ++ 32 ∷ (digits p.row ++ 41 ∷ rest))) ≡ digits p.column ∷ digits p.row ∷ words_in rest
-unfolding words_in pieces nonEmpty joined
-words-point p rest =
-    word-then p.column 32 (digits p.row ++ 41 ∷ rest) refl
-    ∙ ap (λ (ws : List (List ℕ)). digits p.column ∷ ws) (word-then p.row 41 rest refl)
+unfolding words_in pieces non_empty joined
+words_point p rest =
+    word_then p.column 32 (digits p.row ++ 41 ∷ rest) refl
+    ∙ ap (λ (ws : List (List ℕ)). digits p.column ∷ ws) (word_then p.row 41 rest refl)
 
-words-points : (ps : List Point) → words_in (pointsThen ps (41 ∷ [])) ≡ pointWords ps
-unfolding pointsThen words_in pieces nonEmpty joined pointWords
-words-points [] = refl
-words-points (p ∷ ps) =
-    words-point p (pointsThen ps (41 ∷ []))
-    ∙ ap (λ (ws : List (List ℕ)). digits p.column ∷ digits p.row ∷ ws) (words-points ps)
+words_points : (ps : List Point) → words_in (points_then ps (41 ∷ [])) ≡ point_words ps
+unfolding points_then words_in pieces non_empty joined point_words
+words_points [] = refl
+words_points (p ∷ ps) =
+    words_point p (points_then ps (41 ∷ []))
+    ∙ ap (λ (ws : List (List ℕ)). digits p.column ∷ digits p.row ∷ ws) (words_points ps)
 
 -- where points follow a number, its digits end at their first byte
-after-number : (n : ℕ) (ps : List Point) → words_in (digits n ++ pointsThen ps (41 ∷ [])) ≡ digits n ∷ pointWords ps
-unfolding pointsThen words_in pieces nonEmpty joined pointWords
-after-number n [] = word-then n 41 [] refl
-after-number n (p ∷ ps) =
-    word-then n 32 (40 ∷ (digits p.column ++ 32 ∷ (digits p.row ++ 41 ∷ pointsThen ps (41 ∷ [])))) refl
-    ∙ ap (λ (ws : List (List ℕ)). digits n ∷ ws) (words-points (p ∷ ps))
+after_number : (n : ℕ) (ps : List Point) → words_in (digits n ++ points_then ps (41 ∷ [])) ≡ digits n ∷ point_words ps
+unfolding points_then words_in pieces non_empty joined point_words
+after_number n [] = word_then n 41 [] refl
+after_number n (p ∷ ps) =
+    word_then n 32 (40 ∷ (digits p.column ++ 32 ∷ (digits p.row ++ 41 ∷ points_then ps (41 ∷ [])))) refl
+    ∙ ap (λ (ws : List (List ℕ)). digits n ∷ ws) (words_points (p ∷ ps))
 
-points-back : (ps : List Point) → points_of (map (valueFrom 0) (pointWords ps)) ≡ ps
-unfolding points_of pointWords
-points-back [] = refl
-points-back (p ∷ ps) = rw (value-digits p.column, value-digits p.row, points-back ps)
+points_back : (ps : List Point) → points_of (map (value_from 0) (point_words ps)) ≡ ps
+unfolding points_of point_words
+points_back [] = refl
+points_back (p ∷ ps) = rw (value_digits p.column, value_digits p.row, points_back ps)
 
 -- points, written and read, are the points
-pub points-read : (ps : List Point) → points_of (map (valueFrom 0) (words_in (pointsThen ps (41 ∷ [])))) ≡ ps
-points-read ps = ap (λ (ws : List (List ℕ)). points_of (map (valueFrom 0) ws)) (words-points ps) ∙ points-back ps
+pub points_read : (ps : List Point) → points_of (map (value_from 0) (words_in (points_then ps (41 ∷ [])))) ≡ ps
+points_read ps = ap (λ (ws : List (List ℕ)). points_of (map (value_from 0) ws)) (words_points ps) ∙ points_back ps
 
 -- a line's text, read, is the line
 
-writtenWords : Line → List (List ℕ)
-writtenWords opens = layoutWord ∷ []
-writtenWords (track t n) = trackWord ∷ digits t ∷ digits n ∷ []
-writtenWords (wire w) = wireWord ∷ digits w.number ∷ pointWords w.points
-writtenWords (loose n) = looseWord ∷ digits n ∷ []
-writtenWords closes = []
+written_words : Line → List (List ℕ)
+written_words opens = layout_word ∷ []
+written_words (track t n) = track_word ∷ digits t ∷ digits n ∷ []
+written_words (wire w) = wire_word ∷ digits w.number ∷ point_words w.points
+written_words (loose n) = loose_word ∷ digits n ∷ []
+written_words closes = []
 
-words-line : (x : Line) → words_in (lineText x) ≡ writtenWords x
-unfolding lineText words_in pieces nonEmpty joined writtenWords
-words-line opens = refl
-words-line (track t n) =
-    ap (λ (ws : List (List ℕ)). trackWord ∷ ws)
-    (word-then t 32 (digits n ++ 41 ∷ []) refl ∙ ap (λ (ws : List (List ℕ)). digits t ∷ ws) (word-then n 41 [] refl))
-words-line (wire w) = ap (λ (ws : List (List ℕ)). wireWord ∷ ws) (after-number w.number w.points)
-words-line (loose n) = ap (λ (ws : List (List ℕ)). looseWord ∷ ws) (word-then n 41 [] refl)
-words-line closes = refl
+words_line : (x : Line) → words_in (line_text x) ≡ written_words x
+unfolding line_text words_in pieces non_empty joined written_words
+words_line opens = refl
+words_line (track t n) =
+    ap (λ (ws : List (List ℕ)). track_word ∷ ws)
+    (word_then t 32 (digits n ++ 41 ∷ []) refl ∙ ap (λ (ws : List (List ℕ)). digits t ∷ ws) (word_then n 41 [] refl))
+words_line (wire w) = ap (λ (ws : List (List ℕ)). wire_word ∷ ws) (after_number w.number w.points)
+words_line (loose n) = ap (λ (ws : List (List ℕ)). loose_word ∷ ws) (word_then n 41 [] refl)
+words_line closes = refl
 
-ofWords : List (List ℕ) → Line
-ofWords ws = lineFrom (get_or ws 0 []) (map (valueFrom 0) (drop 1 ws))
+of_words : List (List ℕ) → Line
+of_words ws = line_from (get_or ws 0 []) (map (value_from 0) (drop 1 ws))
 
-of-written-words : (x : Line) → ofWords (writtenWords x) ≡ x
-unfolding ofWords writtenWords lineFrom same
-of-written-words opens = refl
-of-written-words (track t n) = rw (value-digits t, value-digits n)
-of-written-words (wire w) = rw (value-digits w.number, points-back w.points)
-of-written-words (loose n) = rw (value-digits n)
-of-written-words closes = refl
+of_written_words : (x : Line) → of_words (written_words x) ≡ x
+unfolding of_words written_words line_from same
+of_written_words opens = refl
+of_written_words (track t n) = rw (value_digits t, value_digits n)
+of_written_words (wire w) = rw (value_digits w.number, points_back w.points)
+of_written_words (loose n) = rw (value_digits n)
+of_written_words closes = refl
 
-pub rough-line : (x : Line) → roughLine (lineText x) ≡ x
-unfolding roughLine ofWords
-rough-line x = ap ofWords (words-line x) ∙ of-written-words x
+pub rough_line_lem : (x : Line) → rough_line (line_text x) ≡ x
+unfolding rough_line of_words
+rough_line_lem x = ap of_words (words_line x) ∙ of_written_words x
 
-pub read-line : (x : Line) → smallLine x ≡ true → readLine (lineText x) ≡ some x
-unfolding readLine
-read-line x h = rw (rough-line x, same_refl (lineText x), h)
+pub read_line_lem : (x : Line) → small_line x ≡ true → read_line (line_text x) ≡ some x
+unfolding read_line
+read_line_lem x h = rw (rough_line_lem x, same_refl (line_text x), h)
 
 -- lines, gathered, are the layout they came from
 
-map_back : (xs : List Line) → map roughLine (map lineText xs) ≡ xs
+map_back : (xs : List Line) → map rough_line (map line_text xs) ≡ xs
 map_back [] = refl
-map_back (x ∷ xs) = rw (rough-line x, map_back xs)
+map_back (x ∷ xs) = rw (rough_line_lem x, map_back xs)
 
 abbrev part : List Wire → List DrawnTrack → List ℕ → Part
 part ws ts ns = record { wires = ws; tracks = ts; loose = ns }
 
-gather-wires : (ws : List Wire) (ts : List DrawnTrack) (ns : List ℕ) (rest : List Line) → gathered rest ≡ part [] ts ns → gathered (wiresThen ws rest) ≡ part ws ts ns
-unfolding gathered add wiresThen
-gather-wires [] ts ns rest e = e
-gather-wires (w ∷ ws) ts ns rest e = rw (gather-wires ws ts ns rest e)
+gather_wires : (ws : List Wire) (ts : List DrawnTrack) (ns : List ℕ) (rest : List Line) → gathered rest ≡ part [] ts ns → gathered (wires_then ws rest) ≡ part ws ts ns
+unfolding gathered add wires_then
+gather_wires [] ts ns rest e = e
+gather_wires (w ∷ ws) ts ns rest e = rw (gather_wires ws ts ns rest e)
 
-gather-loose : (ns : List ℕ) → gathered (looseThen ns (closes ∷ [])) ≡ part [] [] ns
-unfolding gathered add looseThen
-gather-loose [] = refl
-gather-loose (n ∷ ns) = rw (gather-loose ns)
+gather_loose : (ns : List ℕ) → gathered (loose_then ns (closes ∷ [])) ≡ part [] [] ns
+unfolding gathered add loose_then
+gather_loose [] = refl
+gather_loose (n ∷ ns) = rw (gather_loose ns)
 
-gather-tracks : (ts : List DrawnTrack) (ns : List ℕ) → gathered (tracksThen ts (looseThen ns (closes ∷ []))) ≡ part [] ts ns
-unfolding gathered add tracksThen
-gather-tracks [] ns = gather-loose ns
-gather-tracks (t ∷ ts) ns = rw (gather-wires t.wires ts ns (tracksThen ts (looseThen ns (closes ∷ []))) (gather-tracks ts ns))
+gather_tracks : (ts : List DrawnTrack) (ns : List ℕ) → gathered (tracks_then ts (loose_then ns (closes ∷ []))) ≡ part [] ts ns
+unfolding gathered add tracks_then
+gather_tracks [] ns = gather_loose ns
+gather_tracks (t ∷ ts) ns = rw (gather_wires t.wires ts ns (tracks_then ts (loose_then ns (closes ∷ []))) (gather_tracks ts ns))
 
-gather-layout : (l : Layout) → gathered (layoutLines l) ≡ part [] l.tracks l.loose
-unfolding layoutLines gathered add
-gather-layout l = gather-tracks l.tracks l.loose
+gather_layout : (l : Layout) → gathered (layout_lines l) ≡ part [] l.tracks l.loose
+unfolding layout_lines gathered add
+gather_layout l = gather_tracks l.tracks l.loose
 
 -- the round trip
 
-pub rough-layout : (l : Layout) → roughLayout (layoutText l) ≡ l
-unfolding roughLayout layoutText
-rough-layout l = rw (lines-text (layoutLines l), map_back (layoutLines l), gather-layout l)
+pub rough_layout_lem : (l : Layout) → rough_layout (layout_text l) ≡ l
+unfolding rough_layout layout_text
+rough_layout_lem l = rw (lines_text_lem (layout_lines l), map_back (layout_lines l), gather_layout l)
 
-pub read-layout : (l : Layout) → smallLines (layoutLines l) ≡ true → readLayout (layoutText l) ≡ some l
-unfolding readLayout
-read-layout l h = rw (rough-layout l, same_refl (layoutText l), h)
+pub read_layout_lem : (l : Layout) → small_lines (layout_lines l) ≡ true → read_layout (layout_text l) ≡ some l
+unfolding read_layout
+read_layout_lem l h = rw (rough_layout_lem l, same_refl (layout_text l), h)
 
 -- what is read is its text, so a text is of one layout at most
 
-pub only-some : {A : Type 0} (t : Bool) (x y : A) → cond t (some x) none ≡ some y → (t ≡ true) × (x ≡ y)
-only-some true x y e = (refl, cc)
-only-some false x y e = (cc, cc)
+pub only_some : {A : Type 0} (t : Bool) (x y : A) → cond t (some x) none ≡ some y → (t ≡ true) × (x ≡ y)
+only_some true x y e = (refl, cc)
+only_some false x y e = (cc, cc)
 
 -- a line that is read has its text, and its numbers have at most six digits
-pub read-line-sound : (s : List ℕ) (x : Line) → readLine s ≡ some x → (s ≡ lineText x) × (smallLine x ≡ true)
-unfolding readLine
-read-line-sound s x e =
-    let r = roughLine s in
-    let h = only-some (same (lineText r) s && smallLine r) r x e in
-    let k = and_split (same (lineText r) s) (smallLine r) h.0 in
-    (sym (same_true (lineText r) s k.0) ∙ ap lineText h.1, ap smallLine (sym h.1) ∙ k.1)
+pub read_line_sound : (s : List ℕ) (x : Line) → read_line s ≡ some x → (s ≡ line_text x) × (small_line x ≡ true)
+unfolding read_line
+read_line_sound s x e =
+    let r = rough_line s in
+    let h = only_some (same (line_text r) s && small_line r) r x e in
+    let k = and_split (same (line_text r) s) (small_line r) h.0 in
+    (sym (same_true (line_text r) s k.0) ∙ ap line_text h.1, ap small_line (sym h.1) ∙ k.1)
 
-pub read-layout-sound : (s : List ℕ) (l : Layout) → readLayout s ≡ some l → s ≡ layoutText l
-unfolding readLayout
-read-layout-sound s l e =
-    let r = roughLayout s in
-    let h = only-some (same (layoutText r) s && smallLines (layoutLines r)) r l e in
-    let k = and_split (same (layoutText r) s) (smallLines (layoutLines r)) h.0 in
-    sym (same_true (layoutText r) s k.0) ∙ ap layoutText h.1
+pub read_layout_sound : (s : List ℕ) (l : Layout) → read_layout s ≡ some l → s ≡ layout_text l
+unfolding read_layout
+read_layout_sound s l e =
+    let r = rough_layout s in
+    let h = only_some (same (layout_text r) s && small_lines (layout_lines r)) r l e in
+    let k = and_split (same (layout_text r) s) (small_lines (layout_lines r)) h.0 in
+    sym (same_true (layout_text r) s k.0) ∙ ap layout_text h.1
 
-pub layout-text-injective : (l m : Layout) → layoutText l ≡ layoutText m → l ≡ m
-layout-text-injective l m e = sym (rough-layout l) ∙ ap roughLayout e ∙ rough-layout m
+pub layout_text_injective : (l m : Layout) → layout_text l ≡ layout_text m → l ≡ m
+layout_text_injective l m e = sym (rough_layout_lem l) ∙ ap rough_layout e ∙ rough_layout_lem m

@@ -2,29 +2,29 @@
 use mathlib.Core.Path.{◌≡◌, refl, sym, ◌∙◌}
 use mathlib.Core.List.{List, [], ◌∷◌, map}
 use Rattle.lists.specs.Lists.{Each, all_of}
-use Rattle.text.specs.Bytes.{same, pieces, nonEmpty, joined}
-use Rattle.text.specs.Digits.{digits, digitsIn, number, valueFrom}
-use Rattle.keywords.specs.Keywords.{word_of, findWord, findFrom}
+use Rattle.text.specs.Bytes.{same, pieces, non_empty, joined}
+use Rattle.text.specs.Digits.{digits, digits_in, number, value_from}
+use Rattle.keywords.specs.Keywords.{word_of, find_word, find_from}
 use Rattle.lines.specs.Places.{until, scan}
-use Rattle.layout.specs.LayoutText.{pointsThen}
-use Rattle.layout.specs.ReadBack.{words_in, points_of, smallPoints}
-use Rattle.layoutforms.specs.Exact.{beginsWith, leadingZero, exactNumber, numberUpTo, number_at, spacedAt, pointsIn, isPoints}
-use Rattle.layoutforms.specs.ExactForm.{looseForm, wireForm, sumForm, trackForm, formBehind, innerForm, exactForm}
-use Rattle.layoutforms.specs.FormCases.{FormCase, HasForm, formedLines, otherLines}
-use Rattle.layoutforms.proofs.ExactForms.{exact-form}
+use Rattle.layout.specs.LayoutText.{points_then}
+use Rattle.layout.specs.ReadBack.{words_in, points_of, small_points}
+use Rattle.layoutforms.specs.Exact.{begins_with, leading_zero, exact_number, number_up_to, number_at, spaced_at, points_in, is_points}
+use Rattle.layoutforms.specs.ExactForm.{loose_form, wire_form, sum_form, track_form, form_behind, inner_form, exact_form}
+use Rattle.layoutforms.specs.FormCases.{FormCase, HasForm, formed_lines, other_lines}
+use Rattle.layoutforms.proofs.ExactForms.{exact_form_lem}
 
 -- forms worked out part by part are forms of lines
-have-forms : (xs : List FormCase) → map (λ x. exactForm x.line) xs ≡ map (λ x. x.form) xs → Each HasForm xs
-have-forms [] e = tt
-have-forms (x ∷ xs) e =
-    let h : exactForm x.line ≡ x.form = cc in
-    let t : map (λ x. exactForm x.line) xs ≡ map (λ x. x.form) xs = cc in
-    (sym (exact-form x.line) ∙ h, have-forms xs t)
+have_forms : (xs : List FormCase) → map (λ x. exact_form x.line) xs ≡ map (λ x. x.form) xs → Each HasForm xs
+have_forms [] e = tt
+have_forms (x ∷ xs) e =
+    let h : exact_form x.line ≡ x.form = cc in
+    let t : map (λ x. exact_form x.line) xs ≡ map (λ x. x.form) xs = cc in
+    (sym (exact_form_lem x.line) ∙ h, have_forms xs t)
 
-pub formed-lines : Each HasForm formedLines
-unfolding exactForm innerForm formBehind beginsWith scan until findWord findFrom word_of same looseForm wireForm trackForm sumForm spacedAt number_at numberUpTo exactNumber leadingZero number all_of valueFrom isPoints pointsIn words_in pieces nonEmpty joined points_of pointsThen digits digitsIn smallPoints
-formed-lines = have-forms formedLines refl
+pub formed_lines_lem : Each HasForm formed_lines
+unfolding exact_form inner_form form_behind begins_with scan until find_word find_from word_of same loose_form wire_form track_form sum_form spaced_at number_at number_up_to exact_number leading_zero number all_of value_from is_points points_in words_in pieces non_empty joined points_of points_then digits digits_in small_points
+formed_lines_lem = have_forms formed_lines refl
 
-pub other-lines : Each HasForm otherLines
-unfolding exactForm innerForm formBehind beginsWith scan until findWord findFrom word_of same looseForm wireForm trackForm sumForm spacedAt number_at numberUpTo exactNumber leadingZero number all_of valueFrom isPoints pointsIn words_in pieces nonEmpty joined points_of pointsThen digits digitsIn smallPoints
-other-lines = have-forms otherLines refl
+pub other_lines_lem : Each HasForm other_lines
+unfolding exact_form inner_form form_behind begins_with scan until find_word find_from word_of same loose_form wire_form track_form sum_form spaced_at number_at number_up_to exact_number leading_zero number all_of value_from is_points points_in words_in pieces non_empty joined points_of points_then digits digits_in small_points
+other_lines_lem = have_forms other_lines refl

@@ -13,25 +13,25 @@ use lib.Seq.{drop-cons, drop-drop, take-append_seam, drop-append_seam}
 use lib.Dec.{eqb, leb, lit≤}
 use borrow.Author.Tests.{eq-eqb, ne_eqb, eqb-true, eqb-false, leb-true, not-true}
 use Rattle.lists.specs.Lists.{all_of}
-use Rattle.lists.proofs.Cases.{by-test, and_split}
-use Rattle.text.specs.Bytes.{endsWord}
-use Rattle.text.specs.Digits.{digits, isDigit, valueFrom, number}
-use Rattle.text.proofs.Numbers.{digits-small, digits_value, first-not-zero, number_digits}
+use Rattle.lists.proofs.Cases.{by_test, and_split}
+use Rattle.text.specs.Bytes.{ends_word}
+use Rattle.text.specs.Digits.{digits, is_digit, value_from, number}
+use Rattle.text.proofs.Numbers.{digits_small, digits_value, first_not_zero, number_digits}
 use Rattle.lines.specs.Places.{until, scan}
-use Rattle.lines.proofs.Scans.{until-le}
-use Rattle.layout.proofs.RoundTrip.{only-some, digits-inner}
-use Rattle.layoutforms.specs.Exact.{beginsWith, leadingZero, exactNumber, numberUpTo, number_at, spacedAt, openedAt}
+use Rattle.lines.proofs.Scans.{until_le}
+use Rattle.layout.proofs.RoundTrip.{only_some, digits_inner}
+use Rattle.layoutforms.specs.Exact.{begins_with, leading_zero, exact_number, number_up_to, number_at, spaced_at, opened_at}
 use Rattle.layoutforms.specs.declared.parts.LayoutNumber.{LayoutNumber}
 use Rattle.layoutforms.specs.declared.parts.LayoutNumber.TheVariants.{Value, Missing}
 
 -- ---- a byte at a place
 
-pub byte-there : (s : List ℕ) (at b : ℕ) → at < length s → beginsWith b (drop at s) ≡ eqb (get_or s at 0) b
-unfolding beginsWith
-byte-there s at b h = rw (drop-cons s at 0 h)
+pub byte_there : (s : List ℕ) (at b : ℕ) → at < length s → begins_with b (drop at s) ≡ eqb (get_or s at 0) b
+unfolding begins_with
+byte_there s at b h = rw (drop-cons s at 0 h)
 
-pub byte_past : (s : List ℕ) (at b : ℕ) → length s ≤ at → beginsWith b (drop at s) ≡ false
-unfolding beginsWith
+pub byte_past : (s : List ℕ) (at b : ℕ) → length s ≤ at → begins_with b (drop at s) ≡ false
+unfolding begins_with
 byte_past s at b h = rw (drop_of_length-le s h)
 
 -- byte b stands at the place, and the rest behind it
@@ -39,11 +39,11 @@ pub record ByteRead (s : List ℕ) (at b : ℕ) : Type 0 where
   pub inside : at < length s
   pub text : drop at s ≡ b ∷ drop (at + 1) s
 
-pub byte-read : (s : List ℕ) (at b : ℕ) → beginsWith b (drop at s) ≡ true → ByteRead s at b
-byte-read s at b e =
+pub byte_read : (s : List ℕ) (at b : ℕ) → begins_with b (drop at s) ≡ true → ByteRead s at b
+byte_read s at b e =
     elim (dec_lt at (length s)) [
       | yes h ↦
-          let d : get_or s at 0 ≡ b = eqb-true (get_or s at 0) b (sym (byte-there s at b h) ∙ e) in
+          let d : get_or s at 0 ≡ b = eqb-true (get_or s at 0) b (sym (byte_there s at b h) ∙ e) in
           record { inside = h; text = rw (add-one at) (drop-cons s at 0 h ∙ ap (λ (x : ℕ). x ∷ drop (suc at) s) d) }
       | no h ↦
           let z : ◌≡◌ {A = Bool} true false = sym e ∙ byte_past s at b (omega arith) in
@@ -51,39 +51,39 @@ byte-read s at b e =
           absurd (omega arith)
     ]
 
-pub byte-begins : (b : ℕ) (t u : List ℕ) → t ≡ b ∷ u → beginsWith b t ≡ true
-unfolding beginsWith
-byte-begins b t u e = rw (e, eq-eqb b b refl)
+pub byte_begins : (b : ℕ) (t u : List ℕ) → t ≡ b ∷ u → begins_with b t ≡ true
+unfolding begins_with
+byte_begins b t u e = rw (e, eq-eqb b b refl)
 
 -- what stands behind the first byte from a place on
-pub behind-byte : (s : List ℕ) (at b : ℕ) (t : List ℕ) → drop at s ≡ b ∷ t → drop (at + 1) s ≡ t
-behind-byte s at b t e = sym (drop-drop 1 at s) ∙ ap (drop 1) e
+pub behind_byte : (s : List ℕ) (at b : ℕ) (t : List ℕ) → drop at s ≡ b ∷ t → drop (at + 1) s ≡ t
+behind_byte s at b t e = sym (drop-drop 1 at s) ∙ ap (drop 1) e
 
 -- ---- a word that is a number
 
-value-below : (w : List ℕ) (acc k : ℕ) → acc < 10 ^ k → all_of isDigit w ≡ true → valueFrom acc w < 10 ^ (k + length w)
-unfolding valueFrom all_of
-value-below [] acc k h a = let z : k + 0 ≡ k = omega arith in rw z h
-value-below (b ∷ w) acc k h a =
-    let p = and_split (isDigit b) (all_of isDigit w) a in
+value_below : (w : List ℕ) (acc k : ℕ) → acc < 10 ^ k → all_of is_digit w ≡ true → value_from acc w < 10 ^ (k + length w)
+unfolding value_from all_of
+value_below [] acc k h a = let z : k + 0 ≡ k = omega arith in rw z h
+value_below (b ∷ w) acc k h a =
+    let p = and_split (is_digit b) (all_of is_digit w) a in
     let q = and_split (leb 48 b) (leb b 57) p.0 in
     let l : 48 ≤ b = leb-true 48 b q.0 in
     let u : b ≤ 57 = leb-true b 57 q.1 in
     let z : k + suc (length w) ≡ suc k + length w = omega arith in
-    rw z (value-below w (acc * 10 + (b - 48)) (suc k) (omega (arith, pow-suc 10 k)) p.1)
+    rw z (value_below w (acc * 10 + (b - 48)) (suc k) (omega (arith, pow-suc 10 k)) p.1)
 
-own-digits : (w : List ℕ) → 1 ≤ length w → leadingZero w ≡ false → all_of isDigit w ≡ true → digits (valueFrom 0 w) ≡ w
-unfolding leadingZero all_of valueFrom
-own-digits [] h z a = absurd (omega arith)
-own-digits (b ∷ []) h z a =
-    let p = and_split (isDigit b) true a in
+own_digits : (w : List ℕ) → 1 ≤ length w → leading_zero w ≡ false → all_of is_digit w ≡ true → digits (value_from 0 w) ≡ w
+unfolding leading_zero all_of value_from
+own_digits [] h z a = absurd (omega arith)
+own_digits (b ∷ []) h z a =
+    let p = and_split (is_digit b) true a in
     let q = and_split (leb 48 b) (leb b 57) p.0 in
     let l : 48 ≤ b = leb-true 48 b q.0 in
     let u : b ≤ 57 = leb-true b 57 q.1 in
     let d : 48 + (0 * 10 + (b - 48)) ≡ b = omega arith in
-    digits-small (0 * 10 + (b - 48)) (omega arith) ∙ ap (λ (x : ℕ). x ∷ []) d
-own-digits (b ∷ c ∷ w) h z a =
-    let p = and_split (isDigit b) (all_of isDigit (c ∷ w)) a in
+    digits_small (0 * 10 + (b - 48)) (omega arith) ∙ ap (λ (x : ℕ). x ∷ []) d
+own_digits (b ∷ c ∷ w) h z a =
+    let p = and_split (is_digit b) (all_of is_digit (c ∷ w)) a in
     let q = and_split (leb 48 b) (leb b 57) p.0 in
     let l : 48 ≤ b = leb-true 48 b q.0 in
     let n : (b ≡ 48 → ⊥) = eqb-false b 48 z in
@@ -93,48 +93,48 @@ own-digits (b ∷ c ∷ w) h z a =
 pub record WordRead (w : List ℕ) (v : ℕ) : Type 0 where
   pub text : digits v ≡ w
   pub small : v < 1000000
-  pub some-digit : 1 ≤ length w
+  pub some_digit : 1 ≤ length w
 
-number-parts : (w : List ℕ) (v : ℕ) → leadingZero w ≡ false → number 6 w ≡ some v → WordRead w v
+number_parts : (w : List ℕ) (v : ℕ) → leading_zero w ≡ false → number 6 w ≡ some v → WordRead w v
 unfolding number
-number-parts w v z e =
-    let h = only-some (leb 1 (length w) && leb (length w) 6 && all_of isDigit w) (valueFrom 0 w) v e in
-    let k = and_split (leb 1 (length w) && leb (length w) 6) (all_of isDigit w) h.0 in
+number_parts w v z e =
+    let h = only_some (leb 1 (length w) && leb (length w) 6 && all_of is_digit w) (value_from 0 w) v e in
+    let k = and_split (leb 1 (length w) && leb (length w) 6) (all_of is_digit w) h.0 in
     let m = and_split (leb 1 (length w)) (leb (length w) 6) k.0 in
     let l : 1 ≤ length w = leb-true 1 (length w) m.0 in
     let u : length w ≤ 6 = leb-true (length w) 6 m.1 in
     let i : 0 + length w ≡ length w = omega arith in
-    let b : valueFrom 0 w < 10 ^ length w = rw i at (value-below w 0 0 (omega arith) k.1) in
+    let b : value_from 0 w < 10 ^ length w = rw i at (value_below w 0 0 (omega arith) k.1) in
     rw (← h.1)
     (record {
-      text = own-digits w l z k.1;
+      text = own_digits w l z k.1;
       small = omega (arith, pow-le-pow_right {n = 10} (lit≤ tt) u);
-      some-digit = l;
+      some_digit = l;
     })
 
-pub word_read : (w : List ℕ) (v : ℕ) → exactNumber w ≡ some v → WordRead w v
-unfolding exactNumber
+pub word_read : (w : List ℕ) (v : ℕ) → exact_number w ≡ some v → WordRead w v
+unfolding exact_number
 word_read w v e =
-    by-test (leadingZero w) (λ z. let q : none ≡ some v = rw z at e in let o : ◌≡◌ {A = ℕ} 0 1 = cc in absurd (omega arith))
-    (λ z. number-parts w v z (rw z at e))
+    by_test (leading_zero w) (λ z. let q : none ≡ some v = rw z at e in let o : ◌≡◌ {A = ℕ} 0 1 = cc in absurd (omega arith))
+    (λ z. number_parts w v z (rw z at e))
 
-no_zero : (w : List ℕ) → 49 ≤ get_or w 0 0 → leadingZero w ≡ false
-unfolding leadingZero
+no_zero : (w : List ℕ) → 49 ≤ get_or w 0 0 → leading_zero w ≡ false
+unfolding leading_zero
 no_zero [] h = refl
 no_zero (b ∷ []) h = refl
 no_zero (b ∷ c ∷ w) h = ne_eqb b 48 (λ (e : b ≡ 48). omega arith)
 
-digits-lead : (v : ℕ) → leadingZero (digits v) ≡ false
-unfolding leadingZero
-digits-lead v =
+digits_lead : (v : ℕ) → leading_zero (digits v) ≡ false
+unfolding leading_zero
+digits_lead v =
     elim (dec_lt v 10) [
-      | yes h ↦ rw (digits-small v h)
-      | no h ↦ no_zero (digits v) (first-not-zero v (omega arith))
+      | yes h ↦ rw (digits_small v h)
+      | no h ↦ no_zero (digits v) (first_not_zero v (omega arith))
     ]
 
-exact-digits : (v : ℕ) → v < 1000000 → exactNumber (digits v) ≡ some v
-unfolding exactNumber
-exact-digits v h = rw (digits-lead v) (number_digits 5 v (omega arith))
+exact_digits : (v : ℕ) → v < 1000000 → exact_number (digits v) ≡ some v
+unfolding exact_number
+exact_digits v h = rw (digits_lead v) (number_digits 5 v (omega arith))
 
 -- ---- a number at a place
 
@@ -145,24 +145,24 @@ pub record NumberRead (s : List ℕ) (at : ℕ) (before : List ℕ) (v next : �
   pub ahead : at < next
   pub within : next ≤ length s
 
-up_to : (o : Option ℕ) (to v next : ℕ) → numberUpTo o to ≡ Value v next → (o ≡ some v) × (to ≡ next)
-unfolding numberUpTo
+up_to : (o : Option ℕ) (to v next : ℕ) → number_up_to o to ≡ Value v next → (o ≡ some v) × (to ≡ next)
+unfolding number_up_to
 up_to none to v next e = (cc, cc)
 up_to (some x) to v next e = (cc, cc)
 
 pub number_read : (s : List ℕ) (at v next : ℕ) → at ≤ length s → number_at s at ≡ Value v next → NumberRead s at [] v next
 unfolding number_at scan
 number_read s at v next h e =
-    let u = until endsWord (drop at s) in
-    let p = up_to (exactNumber (take (at + u - at) (drop at s))) (at + u) v next e in
+    let u = until ends_word (drop at s) in
+    let p = up_to (exact_number (take (at + u - at) (drop at s))) (at + u) v next e in
     let w = word_read (take u (drop at s)) v (rw (add-sub_cancel_left at u) at p.0) in
     let n : at + u ≡ next = p.1 in
-    let l = until-le endsWord (drop at s) in
+    let l = until_le ends_word (drop at s) in
     rw (← n)
     (record {
       text = sym (take-append-drop u (drop at s)) ∙ (rw (w.text, drop-drop u at s));
       small = w.small;
-      ahead = omega (arith, w.some-digit, length-take u (drop at s));
+      ahead = omega (arith, w.some_digit, length-take u (drop at s));
       within = omega (arith, length-drop at s);
     })
 
@@ -172,44 +172,44 @@ pub record NumberThere (s : List ℕ) (r : LayoutNumber) (v : ℕ) (t : List ℕ
   pub read : r ≡ Value v next
   pub behind : drop next s ≡ t
 
-pub until-then : (f : ℕ → Bool) (w : List ℕ) (c : ℕ) (t : List ℕ) → all_of (λ b. not (f b)) w ≡ true → f c ≡ true → until f (w ++ c ∷ t) ≡ length w
+pub until_then : (f : ℕ → Bool) (w : List ℕ) (c : ℕ) (t : List ℕ) → all_of (λ b. not (f b)) w ≡ true → f c ≡ true → until f (w ++ c ∷ t) ≡ length w
 unfolding until all_of
-until-then f [] c t a e = rw e
-until-then f (b ∷ w) c t a e =
+until_then f [] c t a e = rw e
+until_then f (b ∷ w) c t a e =
     let h = and_split (not (f b)) (all_of (λ b. not (f b)) w) a in
-    rw (not-true (f b) h.0, until-then f w c t h.1 e)
+    rw (not-true (f b) h.0, until_then f w c t h.1 e)
 
-pub number-there : (s : List ℕ) (at v c : ℕ) (t : List ℕ) → drop at s ≡ digits v ++ c ∷ t → endsWord c ≡ true → v < 1000000 → NumberThere s (number_at s at) v (c ∷ t)
-unfolding number_at scan numberUpTo
-number-there s at v c t e m h =
+pub number_there : (s : List ℕ) (at v c : ℕ) (t : List ℕ) → drop at s ≡ digits v ++ c ∷ t → ends_word c ≡ true → v < 1000000 → NumberThere s (number_at s at) v (c ∷ t)
+unfolding number_at scan number_up_to
+number_there s at v c t e m h =
     record {
       next = at + length (digits v);
-      read = rw (e, until-then endsWord (digits v) c t (digits-inner v) m, add-sub_cancel_left at (length (digits v)), take-append_seam (digits v) (c ∷ t), exact-digits v h);
+      read = rw (e, until_then ends_word (digits v) c t (digits_inner v) m, add-sub_cancel_left at (length (digits v)), take-append_seam (digits v) (c ∷ t), exact_digits v h);
       behind = sym (drop-drop (length (digits v)) at s) ∙ ap (drop (length (digits v))) e ∙ drop-append_seam (digits v) (c ∷ t);
     }
 
 -- ---- behind a space, and behind a space and a bracket
 
-pub spaced-read : (s : List ℕ) (at v next : ℕ) → spacedAt s at ≡ Value v next → NumberRead s at (32 ∷ []) v next
-unfolding spacedAt
-spaced-read s at v next e =
-    by-test (beginsWith 32 (drop at s))
+pub spaced_read : (s : List ℕ) (at v next : ℕ) → spaced_at s at ≡ Value v next → NumberRead s at (32 ∷ []) v next
+unfolding spaced_at
+spaced_read s at v next e =
+    by_test (begins_with 32 (drop at s))
     (λ q.
-    let b = byte-read s at 32 q in
+    let b = byte_read s at 32 q in
     let n = number_read s (at + 1) v next (omega arith) (rw q at e) in
     record { text = b.text ∙ ap (λ (l : List ℕ). 32 ∷ l) n.text; small = n.small; ahead = omega arith; within = n.within })
     (λ q. let z : Missing ≡ Value v next = rw q at e in let o : ◌≡◌ {A = ℕ} 0 1 = cc in absurd (omega arith))
 
-pub opened-read : (s : List ℕ) (at v next : ℕ) → openedAt s at ≡ Value v next → NumberRead s at (32 ∷ 40 ∷ []) v next
-unfolding openedAt
-opened-read s at v next e =
-    by-test (beginsWith 32 (drop at s))
+pub opened_read : (s : List ℕ) (at v next : ℕ) → opened_at s at ≡ Value v next → NumberRead s at (32 ∷ 40 ∷ []) v next
+unfolding opened_at
+opened_read s at v next e =
+    by_test (begins_with 32 (drop at s))
     (λ q.
-    let f : cond (beginsWith 40 (drop (at + 1) s)) (number_at s (at + 2)) Missing ≡ Value v next = rw q at e in
-    by-test (beginsWith 40 (drop (at + 1) s))
+    let f : cond (begins_with 40 (drop (at + 1) s)) (number_at s (at + 2)) Missing ≡ Value v next = rw q at e in
+    by_test (begins_with 40 (drop (at + 1) s))
     (λ r.
-    let b = byte-read s at 32 q in
-    let c = byte-read s (at + 1) 40 r in
+    let b = byte_read s at 32 q in
+    let c = byte_read s (at + 1) 40 r in
     let i : at + 1 + 1 ≡ at + 2 = omega arith in
     let n = number_read s (at + 2) v next (omega arith) (rw r at f) in
     record {
@@ -221,16 +221,16 @@ opened-read s at v next e =
     (λ r. let z : Missing ≡ Value v next = rw r at f in let o : ◌≡◌ {A = ℕ} 0 1 = cc in absurd (omega arith)))
     (λ q. let z : Missing ≡ Value v next = rw q at e in let o : ◌≡◌ {A = ℕ} 0 1 = cc in absurd (omega arith))
 
-pub spaced-there : (s : List ℕ) (at v c : ℕ) (t : List ℕ) → drop at s ≡ 32 ∷ (digits v ++ c ∷ t) → endsWord c ≡ true → v < 1000000 → NumberThere s (spacedAt s at) v (c ∷ t)
-unfolding spacedAt
-spaced-there s at v c t e m h =
-    rw (byte-begins 32 (drop at s) (digits v ++ c ∷ t) e)
-    (number-there s (at + 1) v c t (behind-byte s at 32 (digits v ++ c ∷ t) e) m h)
+pub spaced_there : (s : List ℕ) (at v c : ℕ) (t : List ℕ) → drop at s ≡ 32 ∷ (digits v ++ c ∷ t) → ends_word c ≡ true → v < 1000000 → NumberThere s (spaced_at s at) v (c ∷ t)
+unfolding spaced_at
+spaced_there s at v c t e m h =
+    rw (byte_begins 32 (drop at s) (digits v ++ c ∷ t) e)
+    (number_there s (at + 1) v c t (behind_byte s at 32 (digits v ++ c ∷ t) e) m h)
 
-pub opened-there : (s : List ℕ) (at v c : ℕ) (t : List ℕ) → drop at s ≡ 32 ∷ 40 ∷ (digits v ++ c ∷ t) → endsWord c ≡ true → v < 1000000 → NumberThere s (openedAt s at) v (c ∷ t)
-unfolding openedAt
-opened-there s at v c t e m h =
+pub opened_there : (s : List ℕ) (at v c : ℕ) (t : List ℕ) → drop at s ≡ 32 ∷ 40 ∷ (digits v ++ c ∷ t) → ends_word c ≡ true → v < 1000000 → NumberThere s (opened_at s at) v (c ∷ t)
+unfolding opened_at
+opened_there s at v c t e m h =
     let i : at + 1 + 1 ≡ at + 2 = omega arith in
-    let d = behind-byte s at 32 (40 ∷ (digits v ++ c ∷ t)) e in
-    rw (byte-begins 32 (drop at s) (40 ∷ (digits v ++ c ∷ t)) e, byte-begins 40 (drop (at + 1) s) (digits v ++ c ∷ t) d)
-    (number-there s (at + 2) v c t (ap (λ (k : ℕ). drop k s) (sym i) ∙ behind-byte s (at + 1) 40 (digits v ++ c ∷ t) d) m h)
+    let d = behind_byte s at 32 (40 ∷ (digits v ++ c ∷ t)) e in
+    rw (byte_begins 32 (drop at s) (40 ∷ (digits v ++ c ∷ t)) e, byte_begins 40 (drop (at + 1) s) (digits v ++ c ∷ t) d)
+    (number_there s (at + 2) v c t (ap (λ (k : ℕ). drop k s) (sym i) ∙ behind_byte s (at + 1) 40 (digits v ++ c ∷ t) d) m h)

@@ -2,8 +2,8 @@
 -- single spaces, numbers of one to six digits, no leading zeros.
 use Rattle.std.specs.Prelude.{◌≡◌, List, [], ◌∷◌, ℕ}
 use Rattle.text.specs.Bytes.{bytes}
-use Rattle.layout.specs.ReadBack.{readLine}
-use Rattle.layoutforms.specs.LayoutForms.{layoutFormOf}
+use Rattle.layout.specs.ReadBack.{read_line}
+use Rattle.layoutforms.specs.LayoutForms.{layout_form_of}
 use Rattle.layoutforms.specs.declared.LayoutForm.{LayoutForm}
 use Rattle.layoutforms.specs.declared.LayoutForm.TheVariants.{Opening, Track, Wire, Loose, Closing, Other}
 
@@ -14,11 +14,11 @@ pub record FormCase : Type 0 where
 
 -- the line has the form
 abbrev pub HasForm : FormCase → Type 0
-HasForm x = layoutFormOf (readLine x.line) ≡ x.form
+HasForm x = layout_form_of (read_line x.line) ≡ x.form
 
 -- of the form: any number of points, none included, and 0 as a number
-abbrev pub formedLines : List FormCase
-formedLines =
+abbrev pub formed_lines : List FormCase
+formed_lines =
     record { line = bytes "(layout"; form = Opening } ∷
     record { line = bytes ")"; form = Closing } ∷
     record { line = bytes " (track 128 511488)"; form = Track 128 511488 } ∷
@@ -28,8 +28,8 @@ formedLines =
     record { line = bytes " (loose 0)"; form = Loose 0 } ∷ []
 
 -- not of the form: a leading zero, a seventh digit, a second space, a bracket missing, text left over, a space missing or too many
-abbrev pub otherLines : List FormCase
-otherLines =
+abbrev pub other_lines : List FormCase
+other_lines =
     record { line = []; form = Other } ∷
     record { line = bytes " (loose 07)"; form = Other } ∷
     record { line = bytes " (loose 1000000)"; form = Other } ∷

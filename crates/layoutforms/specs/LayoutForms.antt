@@ -5,14 +5,14 @@ use Rattle.layoutforms.specs.declared.LayoutForm.{LayoutForm}
 use Rattle.layoutforms.specs.declared.LayoutForm.TheVariants.{Opening, Track, Wire, Loose, Closing, Other}
 
 -- a line without the points of its wire
-unfoldable pub lineForm : Line → LayoutForm
-lineForm opens = Opening
-lineForm (track t n) = Track t n
-lineForm (wire w) = Wire w.number
-lineForm (loose n) = Loose n
-lineForm closes = Closing
+unfoldable pub line_form : Line → LayoutForm
+line_form opens = Opening
+line_form (track t n) = Track t n
+line_form (wire w) = Wire w.number
+line_form (loose n) = Loose n
+line_form closes = Closing
 
 -- the same where a text is a line of a layout; any other text is none of the forms
-unfoldable pub layoutFormOf : Option Line → LayoutForm
-layoutFormOf none = Other
-layoutFormOf (some x) = lineForm x
+unfoldable pub layout_form_of : Option Line → LayoutForm
+layout_form_of none = Other
+layout_form_of (some x) = line_form x

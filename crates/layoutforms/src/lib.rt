@@ -6,10 +6,10 @@ mod parts;
 pub mod rows;
 
 ghost use Rattle.std.specs.Prelude.{◌≡◌, ◌≤◌, length, drop};
-ghost use Rattle.layout.specs.ReadBack.{readLine};
-ghost use Rattle.layoutforms.specs.LayoutForms.{layoutFormOf};
-ghost use Rattle.layoutforms.specs.Exact.{spacedAt, isPoints};
-ghost use Rattle.layoutforms.specs.ExactForm.{looseForm, wireForm, trackForm, formBehind, innerForm};
+ghost use Rattle.layout.specs.ReadBack.{read_line};
+ghost use Rattle.layoutforms.specs.LayoutForms.{layout_form_of};
+ghost use Rattle.layoutforms.specs.Exact.{spaced_at, is_points};
+ghost use Rattle.layoutforms.specs.ExactForm.{loose_form, wire_form, track_form, form_behind, inner_form};
 
 use keywords::Vocabulary;
 use lines::Stop;
@@ -29,7 +29,7 @@ pub enum LayoutForm {
 // Whether points and a closing bracket are all that is left.
 fn all_points(s: &[u8], at: usize) -> bool
     requires { at ≤ length s.now }
-    ensures { result ≡ isPoints (drop at s.now) }
+    ensures { result ≡ is_points (drop at s.now) }
 {
     let mut p = at;
     while p < s.len() {
@@ -48,7 +48,7 @@ fn all_points(s: &[u8], at: usize) -> bool
 // What stands behind the word loose: a number and the closing bracket.
 fn loose_form(s: &[u8], at: usize) -> LayoutForm
     requires { at ≤ length s.now }
-    ensures { result ≡ looseForm s.now (spacedAt s.now at) }
+    ensures { result ≡ loose_form s.now (spaced_at s.now at) }
 {
     match spaced_at(s, at) {
         LayoutNumber::Value(number, to) => {
@@ -64,7 +64,7 @@ fn loose_form(s: &[u8], at: usize) -> LayoutForm
 // What stands behind the word wire: a number, points and the closing bracket.
 fn wire_form(s: &[u8], at: usize) -> LayoutForm
     requires { at ≤ length s.now }
-    ensures { result ≡ wireForm s.now (spacedAt s.now at) }
+    ensures { result ≡ wire_form s.now (spaced_at s.now at) }
 {
     match spaced_at(s, at) {
         LayoutNumber::Value(number, to) => {
@@ -80,7 +80,7 @@ fn wire_form(s: &[u8], at: usize) -> LayoutForm
 // What stands behind the word track: two numbers and the closing bracket.
 fn track_form(s: &[u8], at: usize) -> LayoutForm
     requires { at ≤ length s.now }
-    ensures { result ≡ trackForm s.now (spacedAt s.now at) }
+    ensures { result ≡ track_form s.now (spaced_at s.now at) }
 {
     match spaced_at(s, at) {
         LayoutNumber::Value(track, behind) => match spaced_at(s, behind) {
@@ -99,7 +99,7 @@ fn track_form(s: &[u8], at: usize) -> LayoutForm
 // What stands behind word i of the layout's table.
 fn form_behind(s: &[u8], at: usize, i: usize) -> LayoutForm
     requires { at ≤ length s.now }
-    ensures { result ≡ formBehind s.now at i }
+    ensures { result ≡ form_behind s.now at i }
 {
     match i {
         1 => track_form(s, at),
@@ -111,7 +111,7 @@ fn form_behind(s: &[u8], at: usize, i: usize) -> LayoutForm
 
 // A line that begins with a space.
 fn inner_form(s: &[u8]) -> LayoutForm
-    ensures { result ≡ innerForm s.now }
+    ensures { result ≡ inner_form s.now }
 {
     if !byte_is(s, 1, 40) {
         return LayoutForm::Other;
@@ -123,7 +123,7 @@ fn inner_form(s: &[u8]) -> LayoutForm
 
 // The form of a line, without its byte 10.
 pub fn read_layout_line(s: &[u8]) -> LayoutForm
-    ensures { result ≡ layoutFormOf (readLine s.now) }
+    ensures { result ≡ layout_form_of (read_line s.now) }
 {
     if byte_is(s, 0, 32) {
         return inner_form(s);

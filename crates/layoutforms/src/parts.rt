@@ -1,7 +1,7 @@
 // The parts of a line of a layout at a place of it: single bytes, numbers and points.
 ghost use Rattle.std.specs.Prelude.{◌≡◌, ◌≤◌, length, drop};
 ghost use Rattle.text.specs.Bytes.{same};
-ghost use Rattle.layoutforms.specs.Exact.{shutText, beginsWith, leadingZero, number_at, spacedAt, openedAt, pointAt};
+ghost use Rattle.layoutforms.specs.Exact.{shut_text, begins_with, leading_zero, number_at, spaced_at, opened_at, point_at};
 
 use layout::Point;
 use lines::Stop;
@@ -23,7 +23,7 @@ pub enum LayoutPoint {
 
 // Whether byte b stands at a place.
 pub fn byte_is(s: &[u8], at: usize, b: u8) -> bool
-    ensures { result ≡ beginsWith b (drop at s.now) }
+    ensures { result ≡ begins_with b (drop at s.now) }
 {
     if s.len() <= at {
         return false;
@@ -34,7 +34,7 @@ pub fn byte_is(s: &[u8], at: usize, b: u8) -> bool
 // Whether the closing bracket is all that is left.
 pub fn shut_at(s: &[u8], at: usize) -> bool
     requires { at ≤ length s.now }
-    ensures { result ≡ same (drop at s.now) shutText }
+    ensures { result ≡ same (drop at s.now) shut_text }
 {
     if s.len() - at != 1 {
         return false;
@@ -44,7 +44,7 @@ pub fn shut_at(s: &[u8], at: usize) -> bool
 
 // Whether a digit 0 stands before other digits.
 fn leading_zero(w: &[u8]) -> bool
-    ensures { result ≡ leadingZero w.now }
+    ensures { result ≡ leading_zero w.now }
 {
     if w.len() < 2 {
         return false;
@@ -70,7 +70,7 @@ fn number_at(s: &[u8], at: usize) -> LayoutNumber
 // The number behind one space.
 pub fn spaced_at(s: &[u8], at: usize) -> LayoutNumber
     requires { at ≤ length s.now }
-    ensures { result ≡ spacedAt s.now at }
+    ensures { result ≡ spaced_at s.now at }
 {
     if !byte_is(s, at, 32) {
         return LayoutNumber::Missing;
@@ -81,7 +81,7 @@ pub fn spaced_at(s: &[u8], at: usize) -> LayoutNumber
 // The number behind one space and an opening bracket.
 fn opened_at(s: &[u8], at: usize) -> LayoutNumber
     requires { at ≤ length s.now }
-    ensures { result ≡ openedAt s.now at }
+    ensures { result ≡ opened_at s.now at }
 {
     if !byte_is(s, at, 32) {
         return LayoutNumber::Missing;
@@ -95,7 +95,7 @@ fn opened_at(s: &[u8], at: usize) -> LayoutNumber
 // The point at a place.
 pub fn point_at(s: &[u8], at: usize) -> LayoutPoint
     requires { at ≤ length s.now }
-    ensures { result ≡ pointAt s.now at }
+    ensures { result ≡ point_at s.now at }
 {
     match opened_at(s, at) {
         LayoutNumber::Value(column, behind) => match spaced_at(s, behind) {

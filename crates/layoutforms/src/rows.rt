@@ -1,6 +1,6 @@
 // The rows of the points of a wire in one column.
 ghost use Rattle.std.specs.Prelude.{◌≡◌, ◌≤◌, length, drop};
-ghost use Rattle.layoutforms.specs.Rows.{withPoint, PointRows, RowsOf};
+ghost use Rattle.layoutforms.specs.Rows.{with_point, PointRows, RowsOf};
 
 use crate::parts::{LayoutPoint, point_at};
 use layout::Point;
@@ -16,7 +16,7 @@ pub struct ColumnRows {
 
 // The rows so far, with one point more.
 fn with_point(rows: ColumnRows, column: usize, p: Point) -> ColumnRows
-    ensures { result ≡ withPoint column rows p }
+    ensures { result ≡ with_point column rows p }
 {
     if p.column != column {
         return rows;

@@ -10,35 +10,35 @@ use lib.ListN.{length, get_or, take, drop, length-drop, drop_of_length-le}
 use lib.Seq.{take_all, split_at, drop-drop}
 use borrow.Author.Tests.{eq-eqb, ne_eqb, eqb-true}
 use Rattle.lists.specs.Lists.{all_of}
-use Rattle.text.specs.Bytes.{isEnd, pieces}
-use Rattle.lines.specs.Places.{until, stepAt}
+use Rattle.text.specs.Bytes.{is_end, pieces}
+use Rattle.lines.specs.Places.{until, step_at}
 use Rattle.lines.specs.declared.Place.{Place}
 use Rattle.lines.specs.declared.Step.TheVariants.{Line, End}
-use Rattle.lines.proofs.Scans.{until-le, until-before, until-at}
-use Rattle.lines.proofs.Steps.{step-over, end-of-lines}
-use Rattle.layout.specs.ReadBack.{readLine}
+use Rattle.lines.proofs.Scans.{until_le, until_before, until_at}
+use Rattle.lines.proofs.Steps.{step_over, end_of_lines}
+use Rattle.layout.specs.ReadBack.{read_line}
 use Rattle.layout.proofs.RoundTrip.{plain}
-use Rattle.drc.specs.Standing.{isEnded, readEach, lines_read}
-use Rattle.drc.proofs.Lines.{line-then, line-open}
-use Rattle.layoutsteps.specs.LayoutSteps.{lineRead}
+use Rattle.drc.specs.Standing.{is_ended, read_each, lines_read}
+use Rattle.drc.proofs.Lines.{line_then, line_open}
+use Rattle.layoutsteps.specs.LayoutSteps.{line_read}
 
 -- a text whose first byte 10 is known
-first_ended : (t : List ℕ) → until isEnd t < length t → lines_read t ≡ readLine (take (until isEnd t) t) ∷ lines_read (drop (suc (until isEnd t)) t)
+first_ended : (t : List ℕ) → until is_end t < length t → lines_read t ≡ read_line (take (until is_end t) t) ∷ lines_read (drop (suc (until is_end t)) t)
 first_ended t h =
-    let u = until isEnd t in
-    let ten : get_or t u 0 ≡ 10 = eqb-true (get_or t u 0) 10 (until-at isEnd t h) in
+    let u = until is_end t in
+    let ten : get_or t u 0 ≡ 10 = eqb-true (get_or t u 0) 10 (until_at is_end t h) in
     ap lines_read (split_at t u 0 h ∙ ap (λ (b : ℕ). take u t ++ b ∷ drop (suc u) t) ten) ∙
-    line-then (take u t) (drop (suc u) t) (unfold plain in (until-before isEnd t))
+    line_then (take u t) (drop (suc u) t) (unfold plain in (until_before is_end t))
 
 -- a text without byte 10
-none-ended : (t : List ℕ) → 1 ≤ length t → length t ≤ until isEnd t → lines_read t ≡ none ∷ []
-none-ended t l h =
-    let w : take (until isEnd t) t ≡ t = take_all (until isEnd t) t h in
-    let before : all_of plain (take (until isEnd t) t) ≡ true = unfold plain in (until-before isEnd t) in
-    line-open t (rw w at before) l
+none_ended : (t : List ℕ) → 1 ≤ length t → length t ≤ until is_end t → lines_read t ≡ none ∷ []
+none_ended t l h =
+    let w : take (until is_end t) t ≡ t = take_all (until is_end t) t h in
+    let before : all_of plain (take (until is_end t) t) ≡ true = unfold plain in (until_before is_end t) in
+    line_open t (rw w at before) l
 
 none_read : lines_read [] ≡ []
-unfolding lines_read isEnded readEach pieces
+unfolding lines_read is_ended read_each pieces
 none_read = refl
 
 module _ (s : List ℕ) (p : Place) where
@@ -46,13 +46,13 @@ module _ (s : List ℕ) (p : Place) where
   here = drop p.at s
 
   -- the line at a place
-  line-ahead : p.at < length s → (to next : ℕ) → to ≡ p.at + until isEnd here → next ≡ min (to + 1) (length s) →
-      lines_read here ≡ lineRead s p.at to next ∷ lines_read (drop next s)
-  unfolding lineRead
-  line-ahead h to next e f =
-      let u = until isEnd here in
+  line_ahead : p.at < length s → (to next : ℕ) → to ≡ p.at + until is_end here → next ≡ min (to + 1) (length s) →
+      lines_read here ≡ line_read s p.at to next ∷ lines_read (drop next s)
+  unfolding line_read
+  line_ahead h to next e f =
+      let u = until is_end here in
       let size : length here ≡ length s - p.at = length-drop p.at s in
-      let le = until-le isEnd here in
+      let le = until_le is_end here in
       elim (dec_lt to (length s)) [
         | yes l ↦
             let n : next ≡ to + 1 = omega arith in
@@ -64,14 +64,14 @@ module _ (s : List ℕ) (p : Place) where
         | no l ↦
             let n : next ≡ to = omega arith in
             let none_left : drop next s ≡ [] = drop_of_length-le s {i = next} (omega arith) in
-            rw (eq-eqb next to n, none_left, none_read) (none-ended here (omega arith) (omega arith))
+            rw (eq-eqb next to n, none_left, none_read) (none_ended here (omega arith) (omega arith))
       ]
 
-  pub lines-ahead : (from to : ℕ) (n : Place) → Line from to n ≡ stepAt s p → lines_read here ≡ lineRead s from to n.at ∷ lines_read (drop n.at s)
-  lines-ahead from to n e =
-      let q = step-over s p from to n e in
-      rw q.from_is (line-ahead q.more to n.at q.to_is q.next-is)
+  pub lines_ahead : (from to : ℕ) (n : Place) → Line from to n ≡ step_at s p → lines_read here ≡ line_read s from to n.at ∷ lines_read (drop n.at s)
+  lines_ahead from to n e =
+      let q = step_over s p from to n e in
+      rw q.from_is (line_ahead q.more to n.at q.to_is q.next_is)
 
   -- the end of the text
-  pub none_ahead : End ≡ stepAt s p → lines_read here ≡ []
-  none_ahead e = ap lines_read (drop_of_length-le s {i = p.at} (end-of-lines s p e).1) ∙ none_read
+  pub none_ahead : End ≡ step_at s p → lines_read here ≡ []
+  none_ahead e = ap lines_read (drop_of_length-le s {i = p.at} (end_of_lines s p e).1) ∙ none_read

@@ -6,11 +6,11 @@ ghost use Rattle.std.proofs.Math.Option.{Option, some};
 ghost use Rattle.board.specs.Job.{Job};
 ghost use Rattle.board.specs.Accepted.{AcceptedJob};
 ghost use Rattle.layout.specs.Tree.{Wire, Line, wire};
-ghost use Rattle.layout.specs.ReadBack.{readLine};
-ghost use Rattle.drc.specs.Pass.{PassState, passLine, passStep};
+ghost use Rattle.layout.specs.ReadBack.{read_line};
+ghost use Rattle.drc.specs.Pass.{PassState, pass_line, pass_step};
 ghost use Rattle.judging.specs.Judged.{KeepsState, KeepsStep, JudgedInRange, LineInRange};
 ghost use Rattle.judging.specs.Values.{MapOf};
-ghost use Rattle.layoutsteps.specs.LayoutSteps.{layoutStep, formNumber, LineIs};
+ghost use Rattle.layoutsteps.specs.LayoutSteps.{layout_step, form_number, LineIs};
 ghost use Rattle.layoutsteps.specs.Found.{SlotFor, FoundFits, LineOfWire, LineOfForm, FoundFor};
 
 use board::{Board, Net, Track};
@@ -39,7 +39,7 @@ pub struct NetSlot {
 // Reads the line at a place; a last line without byte 10 is not of the form.
 pub fn line_at(place: Place, s: &[u8]) -> LayoutStep
     requires { place.passed ≤ place.at }
-    ensures { result ≡ layoutStep s.now place }
+    ensures { result ≡ layout_step s.now place }
 {
     match place.next_line(s) {
         Step::Line { from, to, next } => {
@@ -55,7 +55,7 @@ pub fn line_at(place: Place, s: &[u8]) -> LayoutStep
 
 // The number of the net that a line is of; 0 where it is of none.
 fn form_number(form: LayoutForm) -> usize
-    ensures { result ≡ formNumber form }
+    ensures { result ≡ form_number form }
 {
     match form {
         LayoutForm::Opening => 0,
@@ -85,7 +85,7 @@ pub fn find_slot<'a>(
     form: LayoutForm,
 ) -> NetSlot
     requires { count ≤ 512 }
-    ensures { SlotFor numbers.now before.now count (formNumber form) result }
+    ensures { SlotFor numbers.now before.now count (form_number form) result }
 {
     let index = judging::nets::net_index(numbers, count, form_number(form));
     let slot = slot_of(index);
@@ -121,7 +121,7 @@ fn take_wire(
     requires judged_in_range { JudgedInRange (line - 1) m }
     requires found_fits { FoundFits board found }
     requires line_of_wire { LineOfWire found s.now }
-    ensures keeps_step { (job : Job) (st : PassState) (w : Wire) → AcceptedJob job → job.board ≡ board → FoundFor job w.number found → readLine s.now ≡ some (wire w) → MapOf job m.track.0 words.now → KeepsState job st m stands.old → KeepsStep job (passLine job line st (wire w)) result stands.new }
+    ensures keeps_step { (job : Job) (st : PassState) (w : Wire) → AcceptedJob job → job.board ≡ board → FoundFor job w.number found → read_line s.now ≡ some (wire w) → MapOf job m.track.0 words.now → KeepsState job st m stands.old → KeepsStep job (pass_line job line st (wire w)) result stands.new }
     ensures judged_in_range_2 { JudgedInRange line result }
 {
     if !judging::is_wire_turn(board.tracks, m) {
@@ -155,7 +155,7 @@ pub fn take_line(
     requires judged_in_range { JudgedInRange (line - 1) m }
     requires found_fits { FoundFits board found }
     requires count_bound { (count ≤ 512) × LineOfForm found form s.now }
-    ensures keeps_step { (job : Job) (st : PassState) (x : Option Line) → AcceptedJob job → job.board ≡ board → length job.nets ≡ count → FoundFor job (formNumber form) found → LineIs s.now x form → MapOf job m.track.0 words.now → KeepsState job st m stands.old → KeepsStep job (passStep job line st x) result stands.new }
+    ensures keeps_step { (job : Job) (st : PassState) (x : Option Line) → AcceptedJob job → job.board ≡ board → length job.nets ≡ count → FoundFor job (form_number form) found → LineIs s.now x form → MapOf job m.track.0 words.now → KeepsState job st m stands.old → KeepsStep job (pass_step job line st x) result stands.new }
     ensures judged_in_range_2 { JudgedInRange line result }
 {
     match form {

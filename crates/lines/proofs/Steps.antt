@@ -7,67 +7,67 @@ use native.Mathlib.Decide.{dec_le, dec_lt}
 use native.Mathlib.Nat.{add-sub_cancel_left}
 use lib.ListN.{length, take, drop, length-drop, drop_of_length-le}
 use lib.Seq.{drop-drop}
-use Rattle.lists.proofs.Cases.{by-test}
-use Rattle.text.specs.Bytes.{isEnd, joined, pieces, lines}
+use Rattle.lists.proofs.Cases.{by_test}
+use Rattle.text.specs.Bytes.{is_end, joined, pieces, lines}
 use Rattle.lines.specs.declared.Place.{Place}
 use Rattle.lines.specs.declared.Step.TheVariants.{Line, End}
-use Rattle.lines.specs.Places.{until, scan, lineEnd, stepAt, stepLines}
+use Rattle.lines.specs.Places.{until, scan, line_end, step_at, step_lines}
 use Rattle.lines.specs.Stepped.{Stepped}
-use Rattle.lines.proofs.Scans.{until-le}
+use Rattle.lines.proofs.Scans.{until_le}
 use Rattle.lines.proofs.StepAnswers.{step_end, step_line}
 
 -- a step passes the first of the lines that are left
 
-first-line : (t : List ℕ) → 0 < length t → lines t ≡ take (until isEnd t) t ∷ lines (drop (suc (until isEnd t)) t)
+first_line : (t : List ℕ) → 0 < length t → lines t ≡ take (until is_end t) t ∷ lines (drop (suc (until is_end t)) t)
 unfolding until pieces joined
-first-line [] h = absurd (omega arith)
-first-line (b ∷ []) h = by-test (isEnd b) (λ e. rw e) (λ e. rw e)
-first-line (b ∷ d ∷ t) h = by-test (isEnd b) (λ e. rw e) (λ e. rw (e, first-line (d ∷ t) (omega arith)))
+first_line [] h = absurd (omega arith)
+first_line (b ∷ []) h = by_test (is_end b) (λ e. rw e) (λ e. rw e)
+first_line (b ∷ d ∷ t) h = by_test (is_end b) (λ e. rw e) (λ e. rw (e, first_line (d ∷ t) (omega arith)))
 
-drop-within : (k : ℕ) (s : List ℕ) → drop (min k (length s)) s ≡ drop k s
-drop-within k s =
+drop_within : (k : ℕ) (s : List ℕ) → drop (min k (length s)) s ≡ drop k s
+drop_within k s =
     elim (dec_le k (length s)) [
       | yes h ↦ let e : min k (length s) ≡ k = omega arith in rw e
       | no h ↦ drop_of_length-le s {i = min k (length s)} (omega arith) ∙ sym (drop_of_length-le s {i = k} (omega arith))
     ]
 
 -- the lines from a place on are the one at it and those behind it
-pub step_lines : (s : List ℕ) (p : Place) → lines (drop p.at s) ≡ stepLines s (stepAt s p)
-unfolding stepLines scan pieces
-step_lines s p =
+pub step_lines_lem : (s : List ℕ) (p : Place) → lines (drop p.at s) ≡ step_lines s (step_at s p)
+unfolding step_lines scan pieces
+step_lines_lem s p =
     elim (dec_lt p.at (length s)) [
       | yes h ↦
-          let u = until isEnd (drop p.at s) in
+          let u = until is_end (drop p.at s) in
           let e : p.at + suc u ≡ p.at + u + 1 = omega arith in
-          first-line (drop p.at s) (omega (arith, length-drop p.at s))
-          ∙ (rw (drop-within, add-sub_cancel_left, drop-drop (suc u) p.at s, e))
-          ∙ ap (stepLines s) (step_line s p (lineEnd s p.at) (min (lineEnd s p.at + 1) (length s)) h refl refl)
-      | no h ↦ ap lines (drop_of_length-le s {i = p.at} (omega arith)) ∙ ap (stepLines s) (step_end s p (omega arith))
+          first_line (drop p.at s) (omega (arith, length-drop p.at s))
+          ∙ (rw (drop_within, add-sub_cancel_left, drop-drop (suc u) p.at s, e))
+          ∙ ap (step_lines s) (step_line s p (line_end s p.at) (min (line_end s p.at + 1) (length s)) h refl refl)
+      | no h ↦ ap lines (drop_of_length-le s {i = p.at} (omega arith)) ∙ ap (step_lines s) (step_end s p (omega arith))
     ]
 
 -- a step over a line by its numbers: the line begins at the place and ends before the first byte 10 or the end of the text
 pub record StepOver (s : List ℕ) (p : Place) (from to : ℕ) (n : Place) : Type 0 where
   pub more : p.at < length s
   pub from_is : from ≡ p.at
-  pub to_is : to ≡ p.at + until isEnd (drop p.at s)
-  pub next-is : n.at ≡ min (to + 1) (length s)
-  pub count-is : n.passed ≡ p.passed + 1
+  pub to_is : to ≡ p.at + until is_end (drop p.at s)
+  pub next_is : n.at ≡ min (to + 1) (length s)
+  pub count_is : n.passed ≡ p.passed + 1
 
-pub step-over : (s : List ℕ) (p : Place) (from to : ℕ) (n : Place) → Line from to n ≡ stepAt s p → StepOver s p from to n
+pub step_over : (s : List ℕ) (p : Place) (from to : ℕ) (n : Place) → Line from to n ≡ step_at s p → StepOver s p from to n
 unfolding scan
-step-over s p from to n e =
+step_over s p from to n e =
     elim (dec_lt p.at (length s)) [
       | yes h ↦
-          let m : Place = record { at = min (lineEnd s p.at + 1) (length s); passed = p.passed + 1 } in
-          let k : Line from to n ≡ Line p.at (lineEnd s p.at) m = e ∙ sym (step_line s p (lineEnd s p.at) m.at h refl refl) in
+          let m : Place = record { at = min (line_end s p.at + 1) (length s); passed = p.passed + 1 } in
+          let k : Line from to n ≡ Line p.at (line_end s p.at) m = e ∙ sym (step_line s p (line_end s p.at) m.at h refl refl) in
           let g : n ≡ m = cc in
-          let o : to ≡ lineEnd s p.at = cc in
+          let o : to ≡ line_end s p.at = cc in
           record {
             more = h;
             from_is = cc;
             to_is = o;
-            next-is = ap (λ (q : Place). q.at) g ∙ ap (λ (x : ℕ). min (x + 1) (length s)) (sym o);
-            count-is = ap (λ (q : Place). q.passed) g;
+            next_is = ap (λ (q : Place). q.at) g ∙ ap (λ (x : ℕ). min (x + 1) (length s)) (sym o);
+            count_is = ap (λ (q : Place). q.passed) g;
           }
       | no h ↦
           let k : Line from to n ≡ End = e ∙ sym (step_end s p (omega arith)) in
@@ -76,28 +76,28 @@ step-over s p from to n e =
     ]
 
 -- `Stepped` holds of every step over a line
-pub stepped : (s : List ℕ) (p : Place) (from to : ℕ) (n : Place) → Line from to n ≡ stepAt s p → Stepped s p from to n
-unfolding stepLines
+pub stepped : (s : List ℕ) (p : Place) (from to : ℕ) (n : Place) → Line from to n ≡ step_at s p → Stepped s p from to n
+unfolding step_lines
 stepped s p from to n e =
-    let q = step-over s p from to n e in
+    let q = step_over s p from to n e in
     record {
       starts = q.from_is;
       ordered = omega arith;
-      inside = omega (arith, until-le isEnd (drop p.at s), length-drop p.at s);
+      inside = omega (arith, until_le is_end (drop p.at s), length-drop p.at s);
       ahead = omega arith;
       within = omega arith;
-      counted = q.count-is;
-      line = step_lines s p ∙ ap (stepLines s) (sym e);
+      counted = q.count_is;
+      line = step_lines_lem s p ∙ ap (step_lines s) (sym e);
     }
 
 -- and a step that finds none: no line is left
-pub end-of-lines : (s : List ℕ) (p : Place) → End ≡ stepAt s p → (lines (drop p.at s) ≡ []) × (length s ≤ p.at)
-unfolding stepLines
-end-of-lines s p e =
+pub end_of_lines : (s : List ℕ) (p : Place) → End ≡ step_at s p → (lines (drop p.at s) ≡ []) × (length s ≤ p.at)
+unfolding step_lines
+end_of_lines s p e =
     elim (dec_lt p.at (length s)) [
       | yes h ↦
-          let k = e ∙ sym (step_line s p (lineEnd s p.at) (min (lineEnd s p.at + 1) (length s)) h refl refl) in
+          let k = e ∙ sym (step_line s p (line_end s p.at) (min (line_end s p.at + 1) (length s)) h refl refl) in
           let z : ◌≡◌ {A = ℕ} 0 1 = cc in
           absurd (omega arith)
-      | no h ↦ (step_lines s p ∙ ap (stepLines s) (sym e), omega arith)
+      | no h ↦ (step_lines_lem s p ∙ ap (step_lines s) (sym e), omega arith)
     ]

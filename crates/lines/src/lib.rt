@@ -2,8 +2,8 @@
 #![tactic(auto)]
 
 ghost use Rattle.std.specs.Prelude.{◌≡◌, ◌≤◌, length};
-ghost use Rattle.lines.specs.Places.{stopsAt, scan, stepAt};
-ghost use Rattle.lines.specs.Tokens.{tokenAt};
+ghost use Rattle.lines.specs.Places.{stops_at, scan, step_at};
+ghost use Rattle.lines.specs.Tokens.{token_at};
 
 // The place that a reading has come to: the byte at which the next line begins, and the lines passed.
 #[derive(Clone, Copy)]
@@ -39,7 +39,7 @@ pub enum Stop {
 
 // Whether a scan stops at byte b.
 fn stops(stop: Stop, b: u8) -> bool
-    ensures { result ≡ stopsAt stop b }
+    ensures { result ≡ stops_at stop b }
 {
     match stop {
         Stop::LineEnd => b == 10,
@@ -59,7 +59,7 @@ fn stops(stop: Stop, b: u8) -> bool
 // The place of the first byte at or after `from` at which a scan stops, or the length.
 pub fn scan_to(stop: Stop, s: &[u8], from: usize) -> usize
     requires { from ≤ length s.now }
-    ensures { (result ≡ scan (stopsAt stop) s.now from) × (from ≤ result) × (result ≤ length s.now) }
+    ensures { (result ≡ scan (stops_at stop) s.now from) × (from ≤ result) × (result ≤ length s.now) }
 {
     let mut i = from;
     while i < s.len() {
@@ -82,7 +82,7 @@ impl Place {
     // Moves on by a whole line: the line here, and the place behind it.
     pub fn next_line(self, s: &[u8]) -> Step
         requires { self.passed ≤ self.at }
-        ensures { result ≡ stepAt s.now self }
+        ensures { result ≡ step_at s.now self }
     {
         let from = self.at;
         let passed = self.passed;
@@ -108,7 +108,7 @@ impl Place {
 // The token at a place of a line, spaces before it passed over.
 pub fn read_token(s: &[u8], at: usize) -> Token
     requires { at ≤ length s.now }
-    ensures { result ≡ tokenAt s.now at }
+    ensures { result ≡ token_at s.now at }
 {
     let i = scan_to(Stop::NotSpace, s, at);
     if s.len() <= i {

@@ -4,14 +4,14 @@
 ghost use Rattle.std.specs.Prelude.{◌+◌, ◌≤◌, ◌<◌, length};
 ghost use Rattle.text.specs.Written.{Written, WrittenAt};
 ghost use Rattle.keywords.specs.Keywords.{words};
-ghost use Rattle.linewriter.specs.LineText.{headText, openingText, closingText};
+ghost use Rattle.linewriter.specs.LineText.{head_text, opening_text, closing_text};
 
 use keywords::Vocabulary;
 
 // Writes how an inner line begins, " (word number", with word i of the table v, from the place `at` on, and returns the next place.
 pub fn put_head(out: &mut [u8], at: usize, v: Vocabulary, i: usize, number: usize) -> usize
-    requires { (i < length (words v)) × (at + length (headText v i number) ≤ length out.old) }
-    ensures { WrittenAt at (headText v i number) out.old out.new result }
+    requires { (i < length (words v)) × (at + length (head_text v i number) ≤ length out.old) }
+    ensures { WrittenAt at (head_text v i number) out.old out.new result }
 {
     let a = text::put_bytes_at(out, at, b" (");
     let b = keywords::put_word_at(out, a, v, i);
@@ -20,8 +20,8 @@ pub fn put_head(out: &mut [u8], at: usize, v: Vocabulary, i: usize, number: usiz
 
 // Writes the first line of a text, "(word", at the start of the rest of the buffer that it is lent, and returns the bytes used.
 fn opening_line(out: &mut [u8], v: Vocabulary) -> usize
-    requires { length (openingText v) ≤ length out.old }
-    ensures { Written (openingText v) out.old out.new result }
+    requires { length (opening_text v) ≤ length out.old }
+    ensures { Written (opening_text v) out.old out.new result }
 {
     let a = text::put_bytes_at(out, 0, b"(");
     let b = keywords::put_word_at(out, a, v, 0);
@@ -30,24 +30,24 @@ fn opening_line(out: &mut [u8], v: Vocabulary) -> usize
 
 // Writes the first line from the place `at` on, and returns the next place.
 pub fn put_opening(out: &mut [u8], at: usize, v: Vocabulary) -> usize
-    requires { at + length (openingText v) ≤ length out.old }
-    ensures { WrittenAt at (openingText v) out.old out.new result }
+    requires { at + length (opening_text v) ≤ length out.old }
+    ensures { WrittenAt at (opening_text v) out.old out.new result }
 {
     at + opening_line(&mut out[at..], v)
 }
 
 // Writes the last line of a text, ")", at the start of the rest of the buffer that it is lent, and returns the bytes used.
 fn closing_line(out: &mut [u8]) -> usize
-    requires { length closingText ≤ length out.old }
-    ensures { Written closingText out.old out.new result }
+    requires { length closing_text ≤ length out.old }
+    ensures { Written closing_text out.old out.new result }
 {
     text::put_bytes(out, b")\n")
 }
 
 // Writes the last line from the place `at` on, and returns the next place.
 pub fn put_closing(out: &mut [u8], at: usize) -> usize
-    requires { at + length closingText ≤ length out.old }
-    ensures { WrittenAt at closingText out.old out.new result }
+    requires { at + length closing_text ≤ length out.old }
+    ensures { WrittenAt at closing_text out.old out.new result }
 {
     at + closing_line(&mut out[at..])
 }

@@ -3,7 +3,7 @@ use mathlib.Core.Path.{◌≡◌, refl, sym, ap, ◌∙◌}
 use mathlib.Core.Bool.{Bool, false, ◌&&◌, ◌||◌, and_assoc, or_assoc, or_comm, true≢false}
 use mathlib.Core.List.{List, [], ◌∷◌, ◌++◌, map, Memᴰ}
 use Rattle.lists.specs.Lists.{Each, EachPair, any_of, all_of}
-use Rattle.lists.proofs.Cases.{by-test}
+use Rattle.lists.proofs.Cases.{by_test}
 use Rattle.lists.proofs.Laws.{Each-map, Each-both}
 
 module _ {A : Type 0} where
@@ -30,8 +30,8 @@ module _ {A : Type 0} where
   EachPair-across R (x ∷ xs) ys a = (Each-right (R x) xs ys a.0, EachPair-across R xs ys a.1)
 
   -- the elements of the first part and the first one of the second
-  pub pair-across : (R : A → A → Type 0) (xs : List A) (y : A) (ys : List A) → EachPair R (xs ++ (y ∷ ys)) → Each (λ x. R x y) xs
-  pair-across R xs y ys p = Each-map xs (λ x (a : Each (R x) (y ∷ ys)). a.0) (EachPair-across R xs (y ∷ ys) p)
+  pub pair_across : (R : A → A → Type 0) (xs : List A) (y : A) (ys : List A) → EachPair R (xs ++ (y ∷ ys)) → Each (λ x. R x y) xs
+  pair_across R xs y ys p = Each-map xs (λ x (a : Each (R x) (y ∷ ys)). a.0) (EachPair-across R xs (y ∷ ys) p)
 
   pub EachPair-map : {R S : A → A → Type 0} (xs : List A) → ((x y : A) → R x y → S x y) → EachPair R xs → EachPair S xs
   EachPair-map [] f a = tt
@@ -51,24 +51,24 @@ EachPair-mapped f R [] a = tt
 EachPair-mapped f R (x ∷ xs) a = (Each-mapped f (R (f x)) xs a.0, EachPair-mapped f R xs a.1)
 
 -- a test on all elements of two lists in a row
-pub allOf-append : {A : Type 0} (f : A → Bool) (s t : List A) → all_of f (s ++ t) ≡ (all_of f s && all_of f t)
+pub all_of_append : {A : Type 0} (f : A → Bool) (s t : List A) → all_of f (s ++ t) ≡ (all_of f s && all_of f t)
 unfolding all_of
-allOf-append f [] t = refl
-allOf-append f (b ∷ s) t = rw (allOf-append f s t, and_assoc)
+all_of_append f [] t = refl
+all_of_append f (b ∷ s) t = rw (all_of_append f s t, and_assoc)
 
 -- a test of some element, of a list and one element more
-pub anyOf-more : {A : Type 0} (f : A → Bool) (xs : List A) (x : A) → any_of f (xs ++ (x ∷ [])) ≡ (f x || any_of f xs)
+pub any_of_more : {A : Type 0} (f : A → Bool) (xs : List A) (x : A) → any_of f (xs ++ (x ∷ [])) ≡ (f x || any_of f xs)
 unfolding any_of
-anyOf-more f [] x = refl
-anyOf-more f (y ∷ ys) x =
-    rw (anyOf-more f ys x) (sym (or_assoc (f y) (f x) (any_of f ys)) ∙ ap (λ t. t || any_of f ys) (or_comm (f y) (f x)) ∙ or_assoc (f x) (f y) (any_of f ys))
+any_of_more f [] x = refl
+any_of_more f (y ∷ ys) x =
+    rw (any_of_more f ys x) (sym (or_assoc (f y) (f x) (any_of f ys)) ∙ ap (λ t. t || any_of f ys) (or_comm (f y) (f x)) ∙ or_assoc (f x) (f y) (any_of f ys))
 
 module _ {A : Type 0} where
   -- where a test of every element fails, it fails for one
-  pub allOf-false : (f : A → Bool) (xs : List A) → all_of f xs ≡ false → (x : A) × Memᴰ x xs × (f x ≡ false)
+  pub all_of_false : (f : A → Bool) (xs : List A) → all_of f xs ≡ false → (x : A) × Memᴰ x xs × (f x ≡ false)
   unfolding all_of
-  allOf-false f [] h = absurd (true≢false h)
-  allOf-false f (x ∷ xs) h =
-      by-test (f x)
-      (λ e. let r = allOf-false f xs (rw e at h) in (r.0, Memᴰ.tail r.1, r.2))
+  all_of_false f [] h = absurd (true≢false h)
+  all_of_false f (x ∷ xs) h =
+      by_test (f x)
+      (λ e. let r = all_of_false f xs (rw e at h) in (r.0, Memᴰ.tail r.1, r.2))
       (λ e. (x, Memᴰ.head refl, e))

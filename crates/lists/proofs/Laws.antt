@@ -9,7 +9,7 @@ use Prim.Native.Nat.{ℕ}
 use lib.Dec.{eqb}
 use borrow.Author.Tests.{eqb-true, eq-eqb}
 use Rattle.lists.specs.Lists.{Each, any_of, all_of, first_of}
-use Rattle.lists.proofs.Cases.{by-test, and_split, and_both}
+use Rattle.lists.proofs.Cases.{by_test, and_split, and_both}
 
 module _ {A : Type 0} where
   pub Each-map : {P Q : A → Type 0} (xs : List A) → ((x : A) → P x → Q x) → Each P xs → Each Q xs
@@ -24,47 +24,47 @@ module _ {A : Type 0} where
   Each-at P [] x a m = absurd (Memᴰ.not-nil m)
   Each-at P (y ∷ ys) x a m = ⊎_elim (λ (q : x ≡ y). rw q a.0) (λ m'. Each-at P ys x a.1 m') (Memᴰ.cases_cons m)
 
-  pub allOf-at : (f : A → Bool) (xs : List A) (x : A) → all_of f xs ≡ true → Memᴰ x xs → f x ≡ true
+  pub all_of_at : (f : A → Bool) (xs : List A) (x : A) → all_of f xs ≡ true → Memᴰ x xs → f x ≡ true
   unfolding all_of
-  allOf-at f [] x h m = absurd (Memᴰ.not-nil m)
-  allOf-at f (y ∷ ys) x h m =
+  all_of_at f [] x h m = absurd (Memᴰ.not-nil m)
+  all_of_at f (y ∷ ys) x h m =
       let s = and_split (f y) (all_of f ys) h in
-      ⊎_elim (λ q. ap f q ∙ s.0) (λ m'. allOf-at f ys x s.1 m') (Memᴰ.cases_cons m)
+      ⊎_elim (λ q. ap f q ∙ s.0) (λ m'. all_of_at f ys x s.1 m') (Memᴰ.cases_cons m)
 
-  pub allOf-of : (f : A → Bool) (xs : List A) → ((x : A) → Memᴰ x xs → f x ≡ true) → all_of f xs ≡ true
+  pub all_of_of : (f : A → Bool) (xs : List A) → ((x : A) → Memᴰ x xs → f x ≡ true) → all_of f xs ≡ true
   unfolding all_of
-  allOf-of f [] h = refl
-  allOf-of f (y ∷ ys) h =
-      and_both (f y) (all_of f ys) (h y (Memᴰ.head refl)) (allOf-of f ys (λ x m. h x (Memᴰ.tail m)))
+  all_of_of f [] h = refl
+  all_of_of f (y ∷ ys) h =
+      and_both (f y) (all_of f ys) (h y (Memᴰ.head refl)) (all_of_of f ys (λ x m. h x (Memᴰ.tail m)))
 
   -- what `first_of` answers
-  pub firstOf-some : (f : A → Bool) (xs : List A) (x : A) → first_of f xs ≡ some x → (Memᴰ x xs) × (f x ≡ true)
+  pub first_of_some : (f : A → Bool) (xs : List A) (x : A) → first_of f xs ≡ some x → (Memᴰ x xs) × (f x ≡ true)
   unfolding first_of
-  firstOf-some f [] x h = absurd (none-ne-some x h)
-  firstOf-some f (y ∷ ys) x h =
-      by-test (f y)
+  first_of_some f [] x h = absurd (none-ne-some x h)
+  first_of_some f (y ∷ ys) x h =
+      by_test (f y)
       (λ e. let q : x ≡ y = some-injective x y (sym (rw e at h)) in (Memᴰ.head q, ap f q ∙ e))
-      (λ e. let r = firstOf-some f ys x (rw e at h) in (Memᴰ.tail r.0, r.1))
+      (λ e. let r = first_of_some f ys x (rw e at h) in (Memᴰ.tail r.0, r.1))
 
-  pub firstOf-none : (f : A → Bool) (xs : List A) (x : A) → first_of f xs ≡ none → Memᴰ x xs → f x ≡ false
+  pub first_of_none : (f : A → Bool) (xs : List A) (x : A) → first_of f xs ≡ none → Memᴰ x xs → f x ≡ false
   unfolding first_of
-  firstOf-none f [] x h m = absurd (Memᴰ.not-nil m)
-  firstOf-none f (y ∷ ys) x h m =
-      by-test (f y)
+  first_of_none f [] x h m = absurd (Memᴰ.not-nil m)
+  first_of_none f (y ∷ ys) x h m =
+      by_test (f y)
       (λ e. absurd (some-ne-none y (rw e at h)))
-      (λ e. ⊎_elim (λ q. ap f q ∙ e) (λ m'. firstOf-none f ys x (rw e at h) m') (Memᴰ.cases_cons m))
+      (λ e. ⊎_elim (λ q. ap f q ∙ e) (λ m'. first_of_none f ys x (rw e at h) m') (Memᴰ.cases_cons m))
 
 -- a number is listed
-pub anyOf-mem : (x : ℕ) (xs : List ℕ) → any_of (eqb x) xs ≡ true → Memᴰ x xs
+pub any_of_mem : (x : ℕ) (xs : List ℕ) → any_of (eqb x) xs ≡ true → Memᴰ x xs
 unfolding any_of
-anyOf-mem x [] h = absurd (false≢true h)
-anyOf-mem x (y ∷ ys) h =
-    by-test (eqb x y)
+any_of_mem x [] h = absurd (false≢true h)
+any_of_mem x (y ∷ ys) h =
+    by_test (eqb x y)
     (λ e. Memᴰ.head (eqb-true x y e))
-    (λ e. Memᴰ.tail (anyOf-mem x ys (rw e at h)))
+    (λ e. Memᴰ.tail (any_of_mem x ys (rw e at h)))
 
-pub mem-anyOf : (x : ℕ) (xs : List ℕ) → Memᴰ x xs → any_of (eqb x) xs ≡ true
+pub mem_any_of : (x : ℕ) (xs : List ℕ) → Memᴰ x xs → any_of (eqb x) xs ≡ true
 unfolding any_of
-mem-anyOf x [] m = absurd (Memᴰ.not-nil m)
-mem-anyOf x (y ∷ ys) m =
-    ⊎_elim (λ q. rw (eq-eqb x y q)) (λ m'. rw (mem-anyOf x ys m') (or-true (eqb x y))) (Memᴰ.cases_cons m)
+mem_any_of x [] m = absurd (Memᴰ.not-nil m)
+mem_any_of x (y ∷ ys) m =
+    ⊎_elim (λ q. rw (eq-eqb x y q)) (λ m'. rw (mem_any_of x ys m') (or-true (eqb x y))) (Memᴰ.cases_cons m)

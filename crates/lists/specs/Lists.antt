@@ -26,10 +26,10 @@ module _ {A : Type 0} where
   all_of f (x ∷ xs) = f x && all_of f xs
 
   -- the test passes for every element and each later one
-  unfoldable pub allPairs : (A → A → Bool) → List A → Bool
+  unfoldable pub all_pairs : (A → A → Bool) → List A → Bool
   unfolding all_of
-  allPairs f [] = true
-  allPairs f (x ∷ xs) = all_of (f x) xs && allPairs f xs
+  all_pairs f [] = true
+  all_pairs f (x ∷ xs) = all_of (f x) xs && all_pairs f xs
 
   -- the first element that passes the test, if any does
   unfoldable pub first_of : (A → Bool) → List A → Option A

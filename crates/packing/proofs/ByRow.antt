@@ -9,116 +9,116 @@ use native.Mathlib.Omega.{arith}
 use borrow.Author.Tests.{eq-eqb}
 use lib.ListN.{get_or}
 use Rattle.lists.specs.Lists.{Each, EachPair}
-use Rattle.lists.proofs.Cases.{by-option, and_both}
+use Rattle.lists.proofs.Cases.{by_option, and_both}
 use Rattle.lists.proofs.Laws.{Each-map}
 use Rattle.board.specs.declared.Net.{Net}
 use Rattle.board.specs.Length.{Allowed, shortest, needed}
 use Rattle.board.specs.Weight.{weight}
 use Rattle.board.specs.Job.{Job}
-use Rattle.board.specs.Placement.{Placement, shortestAt}
-use Rattle.board.specs.Rival.{Rival, rivalSum}
-use Rattle.board.proofs.ShortestShape.{needed-pos}
-use Rattle.packing.specs.Fits.{fitsAt}
-use Rattle.packing.specs.Best.{sumWith, table, bestLast, best}
-use Rattle.packing.specs.Walk.{reaches, choice, walk, choiceAt, walkFrom}
+use Rattle.board.specs.Placement.{Placement, shortest_at}
+use Rattle.board.specs.Rival.{Rival, rival_sum}
+use Rattle.board.proofs.ShortestShape.{needed_pos}
+use Rattle.packing.specs.Fits.{fits_at}
+use Rattle.packing.specs.Best.{sum_with, table, best_last, best}
+use Rattle.packing.specs.Walk.{reaches, choice, walk, choice_at, walk_from}
 use Rattle.packing.specs.Step.{LargestSum, ReachesBest, WalkStep, goes_on, takes}
-use Rattle.packing.proofs.Fitting.{fits-placeable, placeable-fits, fits-within}
-use Rattle.packing.proofs.UpperBound.{rival-bound, table_at}
-use Rattle.packing.proofs.WalkIsRival.{Chosen, choice-none, choice-some, walk-walked, bestLast-zero}
-use Rattle.packing.proofs.LowestNet.{choice-lowest}
+use Rattle.packing.proofs.Fitting.{fits_placeable, placeable_fits, fits_within}
+use Rattle.packing.proofs.UpperBound.{rival_bound, table_at}
+use Rattle.packing.proofs.WalkIsRival.{Chosen, choice_none, choice_some, walk_walked, best_last_zero}
+use Rattle.packing.proofs.LowestNet.{choice_lowest}
 
 module _ (job : Job) (earlier : List ℕ) (t : ℕ) where
   -- best(j)
-  abbrev Best : ℕ → ℕ
-  Best j = best job earlier t j
+  abbrev best_here : ℕ → ℕ
+  best_here j = best job earlier t j
 
   -- the choice for row j
-  abbrev Choice : ℕ → Option Net
-  Choice j = choiceAt job earlier t j
+  abbrev choice_here : ℕ → Option Net
+  choice_here j = choice_at job earlier t j
 
   -- the wires from row j on
-  abbrev From : ℕ → List Placement
-  From j = walkFrom job earlier t j
+  abbrev walk_here : ℕ → List Placement
+  walk_here j = walk_from job earlier t j
 
   -- ---- the table by rows
-  pub best-last : Best (job.board.rows + 1) ≡ 0
+  pub best_last_lem : best_here (job.board.rows + 1) ≡ 0
   unfolding best
-  best-last =
+  best_last_lem =
       let e : job.board.rows + 1 - (job.board.rows + 1) ≡ 0 = omega arith in
-      rw e (bestLast-zero job earlier t)
+      rw e (best_last_zero job earlier t)
 
-  pub table-row : (j i : ℕ) → j + i ≤ job.board.rows → get_or (table job earlier t (job.board.rows - j)) i 0 ≡ Best (j + 1 + i)
+  pub table_row : (j i : ℕ) → j + i ≤ job.board.rows → get_or (table job earlier t (job.board.rows - j)) i 0 ≡ best_here (j + 1 + i)
   unfolding best
-  table-row j i h =
+  table_row j i h =
       let e : job.board.rows - j - i ≡ job.board.rows + 1 - (j + 1 + i) = omega arith in
-      table_at job earlier t (job.board.rows - j) i (omega arith) ∙ ap (bestLast job earlier t) e
+      table_at job earlier t (job.board.rows - j) i (omega arith) ∙ ap (best_last job earlier t) e
 
   -- ---- the walk by rows
   -- the wires of the last k rows
-  abbrev Last : ℕ → List Placement
-  Last k = walk job earlier t k 0
+  abbrev walk_last : ℕ → List Placement
+  walk_last k = walk job earlier t k 0
 
-  pub walk-skip : (k skip : ℕ) → walk job earlier t k skip ≡ Last (k - skip)
+  pub walk_skip : (k skip : ℕ) → walk job earlier t k skip ≡ walk_last (k - skip)
   unfolding walk
-  walk-skip zero skip = let e : 0 ≡ 0 - skip = omega arith in ap Last e
-  walk-skip (suc k) zero = let e : suc k ≡ suc k - 0 = omega arith in ap Last e
-  walk-skip (suc k) (suc skip) = let e : k - skip ≡ suc k - suc skip = omega arith in walk-skip k skip ∙ ap Last e
+  walk_skip zero skip = let e : 0 ≡ 0 - skip = omega arith in ap walk_last e
+  walk_skip (suc k) zero = let e : suc k ≡ suc k - 0 = omega arith in ap walk_last e
+  walk_skip (suc k) (suc skip) = let e : k - skip ≡ suc k - suc skip = omega arith in walk_skip k skip ∙ ap walk_last e
 
-  last_none : (k : ℕ) → choice job earlier t k ≡ none → Last (suc k) ≡ Last k
+  last_none : (k : ℕ) → choice job earlier t k ≡ none → walk_last (suc k) ≡ walk_last k
   unfolding walk
   last_none k c = rw (c, walk)
 
-  last_some : (k : ℕ) (n : Net) → choice job earlier t k ≡ some n → Last (suc k) ≡ shortestAt job.board n (job.board.rows - k) ∷ walk job earlier t k (needed job.board n - 1)
+  last_some : (k : ℕ) (n : Net) → choice job earlier t k ≡ some n → walk_last (suc k) ≡ shortest_at job.board n (job.board.rows - k) ∷ walk job earlier t k (needed job.board n - 1)
   unfolding walk
   last_some k n c = rw (c, walk)
 
-  pub walk_end : From (job.board.rows + 1) ≡ []
-  unfolding walkFrom walk
-  walk_end = let e : job.board.rows + 1 - (job.board.rows + 1) ≡ 0 = omega arith in ap Last e
+  pub walk_end : walk_here (job.board.rows + 1) ≡ []
+  unfolding walk_from walk
+  walk_end = let e : job.board.rows + 1 - (job.board.rows + 1) ≡ 0 = omega arith in ap walk_last e
 
-  pub walk_none : (j : ℕ) → 1 ≤ j → j ≤ job.board.rows → Choice j ≡ none → From j ≡ From (j + 1)
-  unfolding choiceAt walkFrom
+  pub walk_none : (j : ℕ) → 1 ≤ j → j ≤ job.board.rows → choice_here j ≡ none → walk_here j ≡ walk_here (j + 1)
+  unfolding choice_at walk_from
   walk_none j l h c =
       let e : job.board.rows + 1 - j ≡ suc (job.board.rows - j) = omega arith in
       let e' : job.board.rows - j ≡ job.board.rows + 1 - (j + 1) = omega arith in
-      ap Last e ∙ last_none (job.board.rows - j) c ∙ ap Last e'
+      ap walk_last e ∙ last_none (job.board.rows - j) c ∙ ap walk_last e'
 
-  pub walk-some : (j : ℕ) (n : Net) → 1 ≤ j → j ≤ job.board.rows → Choice j ≡ some n → From j ≡ shortestAt job.board n j ∷ From (j + needed job.board n)
-  unfolding choiceAt walkFrom
-  walk-some j n l h c =
-      let p = needed-pos job.board n in
+  pub walk_some : (j : ℕ) (n : Net) → 1 ≤ j → j ≤ job.board.rows → choice_here j ≡ some n → walk_here j ≡ shortest_at job.board n j ∷ walk_here (j + needed job.board n)
+  unfolding choice_at walk_from
+  walk_some j n l h c =
+      let p = needed_pos job.board n in
       let e : job.board.rows + 1 - j ≡ suc (job.board.rows - j) = omega arith in
       let row : job.board.rows - (job.board.rows - j) ≡ j = omega arith in
       let e' : job.board.rows - j - (needed job.board n - 1) ≡ job.board.rows + 1 - (j + needed job.board n) = omega arith in
       let a = last_some (job.board.rows - j) n c in
-      ap Last e ∙ (rw (row, walk-skip (job.board.rows - j) (needed job.board n - 1), e') at a)
+      ap walk_last e ∙ (rw (row, walk_skip (job.board.rows - j) (needed job.board n - 1), e') at a)
 
   -- ---- best(j) is the largest sum of a rival sequence within rows j to H
-  best-most : (j : ℕ) (ps : List Placement) → Rival job earlier t ps → Each (λ p. j ≤ p.top) ps → rivalSum ps ≤ Best j
+  best_most : (j : ℕ) (ps : List Placement) → Rival job earlier t ps → Each (λ p. j ≤ p.top) ps → rival_sum ps ≤ best_here j
   unfolding best
-  best-most j ps r a = rival-bound job earlier t ps (job.board.rows + 1 - j) r (Each-map ps (λ p h. omega arith) a)
+  best_most j ps r a = rival_bound job earlier t ps (job.board.rows + 1 - j) r (Each-map ps (λ p h. omega arith) a)
 
   module _ (allowed : (n : Net) → Memᴰ n job.nets → Allowed job.board n (shortest job.board n)) where
-    walk-shortest : (k skip : ℕ) → Each (λ p. p.shape ≡ shortest job.board p.net) (walk job earlier t k skip)
+    walk_shortest : (k skip : ℕ) → Each (λ p. p.shape ≡ shortest job.board p.net) (walk job earlier t k skip)
     unfolding walk
-    walk-shortest zero skip = tt
-    walk-shortest (suc k) (suc skip) = walk-shortest k skip
-    walk-shortest (suc k) zero =
-        by-option (choice job earlier t k)
-        (λ e. rw (e, walk) (walk-shortest k 0))
-        (λ n e. rw (e, walk) (refl, walk-shortest k (needed job.board n - 1)))
+    walk_shortest zero skip = tt
+    walk_shortest (suc k) (suc skip) = walk_shortest k skip
+    walk_shortest (suc k) zero =
+        by_option (choice job earlier t k)
+        (λ e. rw (e, walk) (walk_shortest k 0))
+        (λ n e. rw (e, walk) (refl, walk_shortest k (needed job.board n - 1)))
 
-    pub best-largest : (j : ℕ) → j ≤ job.board.rows + 1 → LargestSum job earlier t j (From j) (Best j)
-    unfolding walkFrom best
-    best-largest j l =
-        let w = walk-walked job earlier t allowed (job.board.rows + 1 - j) 0 (omega arith) in
+    pub best_largest : (j : ℕ) → j ≤ job.board.rows + 1 → LargestSum job earlier t j (walk_here j) (best_here j)
+    unfolding walk_from best
+    best_largest j l =
+        let w = walk_walked job earlier t allowed (job.board.rows + 1 - j) 0 (omega arith) in
         let e : job.board.rows + 1 - j - 0 ≡ job.board.rows + 1 - j = omega arith in
         record {
-          most = best-most j;
+          most = best_most j;
           rival = w.rival;
-          within = Each-map (From j) (λ p h. omega arith) w.from;
-          at-shortest = walk-shortest (job.board.rows + 1 - j) 0;
-          sum_is = w.sum ∙ ap (bestLast job earlier t) e;
+          within = Each-map (walk_here j) (λ p h. omega arith) w.from;
+          at_shortest = walk_shortest (job.board.rows + 1 - j) 0;
+          sum_is = w.sum ∙ ap (best_last job earlier t) e;
         }
 
     -- ---- the step of the walk at row j
@@ -127,53 +127,53 @@ module _ (job : Job) (earlier : List ℕ) (t : ℕ) where
       abbrev k : ℕ
       k = job.board.rows - j
 
-      last-here : Best j ≡ bestLast job earlier t (suc k)
+      last_here : best_here j ≡ best_last job earlier t (suc k)
       unfolding best
-      last-here = let e : job.board.rows + 1 - j ≡ suc k = omega arith in ap (bestLast job earlier t) e
+      last_here = let e : job.board.rows + 1 - j ≡ suc k = omega arith in ap (best_last job earlier t) e
 
-      last-next : Best (j + 1) ≡ bestLast job earlier t k
+      last_next : best_here (j + 1) ≡ best_last job earlier t k
       unfolding best
-      last-next = let e : job.board.rows + 1 - (j + 1) ≡ k = omega arith in ap (bestLast job earlier t) e
+      last_next = let e : job.board.rows + 1 - (j + 1) ≡ k = omega arith in ap (best_last job earlier t) e
 
-      last-below : (n : Net) → Best (j + needed job.board n) ≡ bestLast job earlier t (suc k - needed job.board n)
+      last_below : (n : Net) → best_here (j + needed job.board n) ≡ best_last job earlier t (suc k - needed job.board n)
       unfolding best
-      last-below n =
-          let e : job.board.rows + 1 - (j + needed job.board n) ≡ suc k - needed job.board n = omega arith in ap (bestLast job earlier t) e
+      last_below n =
+          let e : job.board.rows + 1 - (j + needed job.board n) ≡ suc k - needed job.board n = omega arith in ap (best_last job earlier t) e
 
       row_here : job.board.rows - k ≡ j
       row_here = omega arith
 
-      pub reaches-best : (n : Net) → Chosen job earlier t k n → ReachesBest job earlier t Best j n
-      reaches-best n c =
+      pub reaches_best : (n : Net) → Chosen job earlier t k n → ReachesBest job earlier t best_here j n
+      reaches_best n c =
           record {
-            of-job = c.listed;
-            placeable = fits-placeable job earlier t n j c.listed (allowed n c.listed) (rw row_here at c.fit);
-            reached = omega (arith, c.sum, last-here, last-below n);
+            of_job = c.listed;
+            placeable = fits_placeable job earlier t n j c.listed (allowed n c.listed) (rw row_here at c.fit);
+            reached = omega (arith, c.sum, last_here, last_below n);
           }
 
-      pub best-reaches : (m : Net) → ReachesBest job earlier t Best j m → reaches job earlier t k m ≡ true
-      unfolding reaches sumWith
-      best-reaches m r =
-          let f = placeable-fits job earlier t m j r.placeable in
-          let w = fits-within job earlier t m j f in
-          let p = needed-pos job.board m in
+      pub best_reaches : (m : Net) → ReachesBest job earlier t best_here j m → reaches job earlier t k m ≡ true
+      unfolding reaches sum_with
+      best_reaches m r =
+          let f = placeable_fits job earlier t m j r.placeable in
+          let w = fits_within job earlier t m j f in
+          let p = needed_pos job.board m in
           let e : k - (needed job.board m - 1) ≡ suc k - needed job.board m = omega arith in
           let a = table_at job earlier t k (needed job.board m - 1) (omega arith) in
-          and_both (fitsAt job earlier t m (job.board.rows - k)) _ (rw row_here f)
-          (eq-eqb (weight m + get_or (table job earlier t k) (needed job.board m - 1) 0) (bestLast job earlier t (suc k))
-          (omega (arith, r.reached, last-here, last-below m, ap (bestLast job earlier t) e)))
+          and_both (fits_at job earlier t m (job.board.rows - k)) _ (rw row_here f)
+          (eq-eqb (weight m + get_or (table job earlier t k) (needed job.board m - 1) 0) (best_last job earlier t (suc k))
+          (omega (arith, r.reached, last_here, last_below m, ap (best_last job earlier t) e)))
 
-      best-rose : (n : Net) → Choice j ≡ some n → Best j ≡ Best (j + 1) → ⊥
-      unfolding choiceAt choice
-      best-rose n c q =
-          let e : bestLast job earlier t (suc k) ≡ bestLast job earlier t k = sym last-here ∙ q ∙ last-next in
-          none-ne-some n (rw (eq-eqb (bestLast job earlier t (suc k)) (bestLast job earlier t k) e) at c)
+      best_rose : (n : Net) → choice_here j ≡ some n → best_here j ≡ best_here (j + 1) → ⊥
+      unfolding choice_at choice
+      best_rose n c q =
+          let e : best_last job earlier t (suc k) ≡ best_last job earlier t k = sym last_here ∙ q ∙ last_next in
+          none-ne-some n (rw (eq-eqb (best_last job earlier t (suc k)) (best_last job earlier t k) e) at c)
 
-      pub walk_step : WalkStep job earlier t Best From j
-      unfolding choiceAt
+      pub walk_step : WalkStep job earlier t best_here walk_here j
+      unfolding choice_at
       walk_step =
-          by-option (Choice j)
-          (λ c. goes_on (last-here ∙ choice-none job earlier t k c ∙ sym last-next) (walk_none j low high c))
+          by_option (choice_here j)
+          (λ c. goes_on (last_here ∙ choice_none job earlier t k c ∙ sym last_next) (walk_none j low high c))
           (λ n c.
-          takes n (best-rose n c) (reaches-best n (choice-some job earlier t k n c)) (λ m r. choice-lowest job earlier t (job.board.rows - j) n m rise c r.of-job (best-reaches m r))
-          (walk-some j n low high c))
+          takes n (best_rose n c) (reaches_best n (choice_some job earlier t k n c)) (λ m r. choice_lowest job earlier t (job.board.rows - j) n m rise c r.of_job (best_reaches m r))
+          (walk_some j n low high c))

@@ -9,20 +9,20 @@ use mathlib.Core.List.{List, [], ◌∷◌, Memᴰ}
 use native.Mathlib.Omega.{arith}
 use lib.Dec.{eqb}
 use Rattle.lists.specs.Lists.{EachPair, first_of}
-use Rattle.lists.proofs.Cases.{by-test}
+use Rattle.lists.proofs.Cases.{by_test}
 use Rattle.lists.proofs.Laws.{Each-at}
 use Rattle.board.specs.declared.Net.{Net}
 use Rattle.board.specs.Job.{Job}
-use Rattle.packing.specs.Best.{bestLast}
+use Rattle.packing.specs.Best.{best_last}
 use Rattle.packing.specs.Walk.{reaches, choice}
 
 -- the first net that passes a test has the lowest number of all that pass it, where numbers rise
-pub firstOf-lowest : (f : Net → Bool) (ns : List Net) (n m : Net) → EachPair (λ a b. a.number < b.number) ns →
+pub first_of_lowest : (f : Net → Bool) (ns : List Net) (n m : Net) → EachPair (λ a b. a.number < b.number) ns →
     first_of f ns ≡ some n → Memᴰ m ns → f m ≡ true → n.number ≤ m.number
 unfolding first_of
-firstOf-lowest f [] n m r h i t = absurd (Memᴰ.not-nil i)
-firstOf-lowest f (x ∷ xs) n m r h i t =
-    by-test (f x)
+first_of_lowest f [] n m r h i t = absurd (Memᴰ.not-nil i)
+first_of_lowest f (x ∷ xs) n m r h i t =
+    by_test (f x)
     (λ e.
     let q : x ≡ n = some-injective x n (rw e at h) in
     let l : x.number ≤ m.number = ⊎_elim
@@ -32,13 +32,13 @@ firstOf-lowest f (x ∷ xs) n m r h i t =
     rw q at l)
     (λ e. ⊎_elim
     (λ (p : m ≡ x). absurd (true≢false (sym t ∙ ap f p ∙ e)))
-    (λ i'. firstOf-lowest f xs n m r.1 (rw e at h) i' t)
+    (λ i'. first_of_lowest f xs n m r.1 (rw e at h) i' t)
     (Memᴰ.cases_cons i))
 
-pub choice-lowest : (job : Job) (earlier : List ℕ) (t k : ℕ) (n m : Net) → EachPair (λ a b. a.number < b.number) job.nets →
+pub choice_lowest : (job : Job) (earlier : List ℕ) (t k : ℕ) (n m : Net) → EachPair (λ a b. a.number < b.number) job.nets →
     choice job earlier t k ≡ some n → Memᴰ m job.nets → reaches job earlier t k m ≡ true → n.number ≤ m.number
 unfolding choice
-choice-lowest job earlier t k n m r c i h =
-    by-test (eqb (bestLast job earlier t (suc k)) (bestLast job earlier t k))
+choice_lowest job earlier t k n m r c i h =
+    by_test (eqb (best_last job earlier t (suc k)) (best_last job earlier t k))
     (λ e. absurd (none-ne-some n (rw e at c)))
-    (λ e. firstOf-lowest (reaches job earlier t k) job.nets n m r (rw e at c) i h)
+    (λ e. first_of_lowest (reaches job earlier t k) job.nets n m r (rw e at c) i h)

@@ -5,20 +5,20 @@ use Rattle.lists.specs.Lists.{first_of}
 use Rattle.board.specs.declared.Net.{Net}
 use Rattle.board.specs.Length.{needed}
 use Rattle.board.specs.Job.{Job}
-use Rattle.board.specs.Placement.{Placement, shortestAt}
-use Rattle.packing.specs.Fits.{fitsAt}
-use Rattle.packing.specs.Best.{sumWith, table, bestLast}
+use Rattle.board.specs.Placement.{Placement, shortest_at}
+use Rattle.packing.specs.Fits.{fits_at}
+use Rattle.packing.specs.Best.{sum_with, table, best_last}
 
 module _ (job : Job) (earlier : List ℕ) (t : ℕ) where
   -- with its top at row H − k the net reaches best(H − k)
   unfoldable pub reaches : ℕ → Net → Bool
   reaches k n =
-      fitsAt job earlier t n (job.board.rows - k) && eqb (sumWith job.board (table job earlier t k) n) (bestLast job earlier t (suc k))
+      fits_at job earlier t n (job.board.rows - k) && eqb (sum_with job.board (table job earlier t k) n) (best_last job earlier t (suc k))
 
   -- the choice for row H − k: none where best is that of the next row; otherwise the net of lowest number that reaches best (a job
   -- lists its nets by rising number)
   unfoldable pub choice : ℕ → Option Net
-  choice k = cond (eqb (bestLast job earlier t (suc k)) (bestLast job earlier t k)) none (first_of (reaches k) job.nets)
+  choice k = cond (eqb (best_last job earlier t (suc k)) (best_last job earlier t k)) none (first_of (reaches k) job.nets)
 
   -- the wires of the last k rows, of which the first `skip` are covered already
   unfoldable pub walk : ℕ → ℕ → List Placement
@@ -27,17 +27,17 @@ module _ (job : Job) (earlier : List ℕ) (t : ℕ) where
   walk (suc k) zero =
       elim (choice k) [
         | none ↦ walk k 0
-        | some n ↦ shortestAt job.board n (job.board.rows - k) ∷ walk k (needed job.board n - 1)
+        | some n ↦ shortest_at job.board n (job.board.rows - k) ∷ walk k (needed job.board n - 1)
       ]
 
   -- the choice for row j
-  unfoldable pub choiceAt : ℕ → Option Net
-  choiceAt j = choice (job.board.rows - j)
+  unfoldable pub choice_at : ℕ → Option Net
+  choice_at j = choice (job.board.rows - j)
 
   -- the wires that the walk takes from row j on
-  unfoldable pub walkFrom : ℕ → List Placement
-  walkFrom j = walk (job.board.rows + 1 - j) 0
+  unfoldable pub walk_from : ℕ → List Placement
+  walk_from j = walk (job.board.rows + 1 - j) 0
 
   -- the wires of the track: the walk from row 1
-  unfoldable pub wiresOf : List Placement
-  wiresOf = walkFrom 1
+  unfoldable pub wires_of : List Placement
+  wires_of = walk_from 1

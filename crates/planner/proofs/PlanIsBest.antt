@@ -5,51 +5,51 @@ use mathlib.Core.List.{List, [], ◌∷◌, ◌++◌, map}
 use native.Mathlib.Omega.{arith}
 use lib.ListN.{length, get_or, replicate}
 use Rattle.lists.specs.Lists.{Each}
-use Rattle.lists.proofs.Cases.{by-test}
+use Rattle.lists.proofs.Cases.{by_test}
 use Rattle.board.specs.declared.Net.{Net}
 use Rattle.board.specs.Length.{shortest}
 use Rattle.board.specs.Job.{Job}
-use Rattle.board.specs.Unbeaten.{FilledTrack, emptyTrack, numbersOn}
+use Rattle.board.specs.Unbeaten.{FilledTrack, empty_track, numbers_on}
 use Rattle.board.specs.Accepted.{AcceptedJob}
-use Rattle.board.specs.Tests.{isOn}
-use Rattle.packing.specs.Walk.{wiresOf}
-use Rattle.packing.proofs.ByRow.{best-largest}
-use Rattle.planning.specs.Plan.{filledTrack, plan_of}
-use Rattle.planning.specs.Loose.{without, looseOf}
-use Rattle.planning.proofs.PlanUnbeaten.{all-allowed, plan-unbeaten}
-use Rattle.planning.proofs.Balance.{sums-add-up}
+use Rattle.board.specs.Tests.{is_on}
+use Rattle.packing.specs.Walk.{wires_of}
+use Rattle.packing.proofs.ByRow.{best_largest}
+use Rattle.planning.specs.Plan.{filled_track, plan_of}
+use Rattle.planning.specs.Loose.{without, loose_of}
+use Rattle.planning.proofs.PlanUnbeaten.{all_allowed, plan_unbeaten}
+use Rattle.planning.proofs.Balance.{sums_add_up}
 use Rattle.planner.specs.declared.NetPlan.{NetPlan}
-use Rattle.planner.specs.JobPlans.{netPlanOf, noPlan, storedPlan, jobPlanOf}
-use Rattle.planner.specs.Progressed.{onFirst}
-use Rattle.planner.specs.Chosen.{looseFrom, looseNets, BestPlan}
-use Rattle.planner.proofs.Stands.{on-stand}
-use Rattle.planning.proofs.FirstTracks.{plan-at}
-use Rattle.planner.proofs.TracksOfPlan.{tracks-of-plan}
+use Rattle.planner.specs.JobPlans.{net_plan_of, no_plan, stored_plan, job_plan_of}
+use Rattle.planner.specs.Progressed.{on_first}
+use Rattle.planner.specs.Chosen.{loose_from, loose_nets, BestPlan}
+use Rattle.planner.proofs.Stands.{on_stand}
+use Rattle.planning.proofs.FirstTracks.{plan_at}
+use Rattle.planner.proofs.TracksOfPlan.{tracks_of_plan}
 
 -- the nets that stand on no track of a plan are its loose nets
-loose-from : (plan : List FilledTrack) (ns : List Net) (rest : List NetPlan) → looseFrom ns (map (netPlanOf plan) ns ++ rest) ≡ without (numbersOn plan) ns
-unfolding looseFrom without
-loose-from plan [] rest = refl
-loose-from plan (n ∷ ns) rest =
-    by-test (isOn (numbersOn plan) n)
-    (λ e. rw (on-stand 1 n plan, e) (loose-from plan ns rest))
-    (λ e. rw (on-stand 1 n plan, e) (ap (λ l. n ∷ l) (loose-from plan ns rest)))
+loose_from_lem : (plan : List FilledTrack) (ns : List Net) (rest : List NetPlan) → loose_from ns (map (net_plan_of plan) ns ++ rest) ≡ without (numbers_on plan) ns
+unfolding loose_from without
+loose_from_lem plan [] rest = refl
+loose_from_lem plan (n ∷ ns) rest =
+    by_test (is_on (numbers_on plan) n)
+    (λ e. rw (on_stand 1 n plan, e) (loose_from_lem plan ns rest))
+    (λ e. rw (on_stand 1 n plan, e) (ap (λ l. n ∷ l) (loose_from_lem plan ns rest)))
 
 module _ (job : Job) where
-  pub loose-of-plan : looseNets job (jobPlanOf job) ≡ looseOf job (plan_of job)
-  unfolding looseNets looseOf jobPlanOf storedPlan
-  loose-of-plan = loose-from (plan_of job) job.nets (replicate (512 - length job.nets) noPlan)
+  pub loose_of_plan : loose_nets job (job_plan_of job) ≡ loose_of job (plan_of job)
+  unfolding loose_nets loose_of job_plan_of stored_plan
+  loose_of_plan = loose_from_lem (plan_of job) job.nets (replicate (512 - length job.nets) no_plan)
 
   module _ (a : AcceptedJob job) where
-    plan-shortest : (i : ℕ) → i < job.board.tracks → Each (λ p. p.shape ≡ shortest job.board p.net) (get_or (plan_of job) i emptyTrack).wires
-    unfolding filledTrack wiresOf
-    plan-shortest i h = rw (plan-at job i emptyTrack h) (best-largest job (onFirst job i) (suc i) (all-allowed job a) 1 (omega arith)).at-shortest
+    plan_shortest : (i : ℕ) → i < job.board.tracks → Each (λ p. p.shape ≡ shortest job.board p.net) (get_or (plan_of job) i empty_track).wires
+    unfolding filled_track wires_of
+    plan_shortest i h = rw (plan_at job i empty_track h) (best_largest job (on_first job i) (suc i) (all_allowed job a) 1 (omega arith)).at_shortest
 
-    pub best-plan : BestPlan job (jobPlanOf job)
-    best-plan =
-        let e = tracks-of-plan job a in
+    pub best_plan : BestPlan job (job_plan_of job)
+    best_plan =
+        let e = tracks_of_plan job a in
         record {
-          unbeaten = rw e (plan-unbeaten job a);
-          at-shortest = rw e plan-shortest;
-          balance = rw (e, loose-of-plan) (sums-add-up job a);
+          unbeaten = rw e (plan_unbeaten job a);
+          at_shortest = rw e plan_shortest;
+          balance = rw (e, loose_of_plan) (sums_add_up job a);
         }

@@ -7,7 +7,7 @@ use mathlib.Core.List.{List, [], ◌∷◌, ◌++◌, map, Memᴰ}
 use native.Mathlib.Omega.{arith}
 use lib.ListN.{length, set, replicate}
 use Rattle.lists.specs.Lists.{Each, EachPair}
-use Rattle.lists.proofs.Cases.{by-option}
+use Rattle.lists.proofs.Cases.{by_option}
 use Rattle.lists.proofs.Laws.{Each-map, Each-at}
 use Rattle.lists.proofs.Joins.{EachPair-both}
 use Rattle.lists.proofs.Places.{map_same}
@@ -19,24 +19,24 @@ use Rattle.board.specs.Unbeaten.{FilledTrack}
 use Rattle.board.specs.Accepted.{AcceptedJob}
 use Rattle.board.proofs.SameNumber.{same_number}
 use Rattle.packing.specs.Best.{best}
-use Rattle.packing.specs.Walk.{wiresOf}
-use Rattle.planning.specs.Plan.{filledTrack}
-use Rattle.planning.proofs.PlanUnbeaten.{all-allowed, track-optimal}
+use Rattle.packing.specs.Walk.{wires_of}
+use Rattle.planning.specs.Plan.{filled_track}
+use Rattle.planning.proofs.PlanUnbeaten.{all_allowed, track_optimal}
 use Rattle.planning.proofs.Balance.{once}
 use Rattle.choice.specs.TrackPlans.{index_of}
 use Rattle.planner.specs.declared.Stand.{Stand}
-use Rattle.planner.specs.JobPlans.{wireWith, standFrom, noPlan, storedPlan}
-use Rattle.planner.specs.Progressed.{trackOf, progressOf, firstTracks, onFirst, progressTo}
-use Rattle.planner.proofs.ChoiceRows.{IndexOf, index-of}
-use Rattle.planner.proofs.Marks.{marked, withWires, marked_all, with-map}
-use Rattle.planner.proofs.Stands.{wired, wire-found, stand-kept, stand-new}
-use Rattle.planning.proofs.FirstTracks.{first-length, first_next}
+use Rattle.planner.specs.JobPlans.{wire_with, stand_from, no_plan, stored_plan}
+use Rattle.planner.specs.Progressed.{track_of, progress_of, first_tracks, on_first, progress_to}
+use Rattle.planner.proofs.ChoiceRows.{IndexOf, index_of_lem}
+use Rattle.planner.proofs.Marks.{marked, with_wires, marked_all, with_map}
+use Rattle.planner.proofs.Stands.{wired, wire_found, stand_kept, stand_new}
+use Rattle.planning.proofs.FirstTracks.{first_length, first_next}
 
 -- the sum of one more track
-sums-put : (trs : List FilledTrack) (tr : FilledTrack) (room : ℕ) →
+sums_put : (trs : List FilledTrack) (tr : FilledTrack) (room : ℕ) →
     set (map (λ x. x.sum) trs ++ replicate (suc room) 0) (length trs) tr.sum ≡ map (λ x. x.sum) (trs ++ (tr ∷ [])) ++ replicate room 0
-sums-put [] tr room = refl
-sums-put (x ∷ xs) tr room = ap (λ l. x.sum ∷ l) (sums-put xs tr room)
+sums_put [] tr room = refl
+sums_put (x ∷ xs) tr room = ap (λ l. x.sum ∷ l) (sums_put xs tr room)
 
 -- where a net's wire is stored: at the net's index
 abbrev pub place : Job → Net → ℕ
@@ -46,74 +46,74 @@ module _ (job : Job) (a : AcceptedJob job) where
   -- the wires of a track: a rival sequence, of nets that differ and stand on no earlier track
   module _ (earlier : List ℕ) (t : ℕ) where
     abbrev ws : List Placement
-    ws = wiresOf job earlier t
+    ws = wires_of job earlier t
 
-    pub wires-rival : Rival job earlier t ws
-    unfolding filledTrack
-    wires-rival = (track-optimal job (all-allowed job a) earlier t).rival
+    pub wires_rival : Rival job earlier t ws
+    unfolding filled_track
+    wires_rival = (track_optimal job (all_allowed job a) earlier t).rival
 
-    pub wires-indexed : Each (λ p. IndexOf job.nets p.net (place job p.net)) ws
-    wires-indexed = Each-map ws (λ p v. index-of job p.net a.numbers-rise v.of-job) wires-rival.placeable
+    pub wires_indexed : Each (λ p. IndexOf job.nets p.net (place job p.net)) ws
+    wires_indexed = Each-map ws (λ p v. index_of_lem job p.net a.numbers_rise v.of_job) wires_rival.placeable
 
-    pub wires-differ : EachPair (λ p q. p.net.number ≡ q.net.number → ⊥) ws
-    wires-differ =
+    pub wires_differ : EachPair (λ p q. p.net.number ≡ q.net.number → ⊥) ws
+    wires_differ =
         EachPair-both ws
-        (λ p q v w r e. once job p q v.legal w.legal r (same_number job.nets a.numbers-rise p.net q.net v.of-job w.of-job e))
-        wires-rival.placeable wires-rival.apart
+        (λ p q v w r e. once job p q v.legal w.legal r (same_number job.nets a.numbers_rise p.net q.net v.of_job w.of_job e))
+        wires_rival.placeable wires_rival.apart
 
-    pub tops-differ : EachPair (λ p q. p.top ≡ q.top → ⊥) ws
-    tops-differ = EachPair-both ws (λ p q _ _ l (e : p.top ≡ q.top). omega arith) wires-rival.placeable wires-rival.rising
+    pub tops_differ : EachPair (λ p q. p.top ≡ q.top → ⊥) ws
+    tops_differ = EachPair-both ws (λ p q _ _ l (e : p.top ≡ q.top). omega arith) wires_rival.placeable wires_rival.rising
 
-    pub wires-fresh : (k : ℕ) (p : Placement) → wireWith k ws ≡ some p → Memᴰ k earlier → ⊥
-    wires-fresh k p e m =
-        let f = wire-found k ws p e in
-        let v = Each-at (Placeable job earlier t) ws p wires-rival.placeable f.listed in
+    pub wires_fresh : (k : ℕ) (p : Placement) → wire_with k ws ≡ some p → Memᴰ k earlier → ⊥
+    wires_fresh k p e m =
+        let f = wire_found k ws p e in
+        let v = Each-at (Placeable job earlier t) ws p wires_rival.placeable f.listed in
         v.eligible.fresh (rw f.number_is m)
 
   module _ (t : ℕ) (h : t < job.board.tracks) where
     abbrev trs : List FilledTrack
-    trs = firstTracks job t
+    trs = first_tracks job t
 
     abbrev new : FilledTrack
-    new = filledTrack job (onFirst job t) (suc t)
+    new = filled_track job (on_first job t) (suc t)
 
     abbrev wires : List Placement
-    wires = wiresOf job (onFirst job t) (suc t)
+    wires = wires_of job (on_first job t) (suc t)
 
-    next-stand : (n : Net) → withWires (wired (suc t)) wires (λ m. standFrom 1 trs m.number) n ≡ standFrom 1 (trs ++ (new ∷ [])) n.number
-    unfolding filledTrack
-    next-stand n =
-        by-option (wireWith n.number wires)
-        (λ e. rw e (sym (stand-kept 1 n.number trs new e)))
+    next_stand : (n : Net) → with_wires (wired (suc t)) wires (λ m. stand_from 1 trs m.number) n ≡ stand_from 1 (trs ++ (new ∷ [])) n.number
+    unfolding filled_track
+    next_stand n =
+        by_option (wire_with n.number wires)
+        (λ e. rw e (sym (stand_kept 1 n.number trs new e)))
         (λ p e.
-        let l : 1 + length trs ≡ suc t = omega (arith, first-length job t (omega arith)) in
-        rw e (sym (stand-new 1 n.number trs new p (wires-fresh (onFirst job t) (suc t) n.number p e) e ∙ ap (λ u. wired u p) l)))
+        let l : 1 + length trs ≡ suc t = omega (arith, first_length job t (omega arith)) in
+        rw e (sym (stand_new 1 n.number trs new p (wires_fresh (on_first job t) (suc t) n.number p e) e ∙ ap (λ u. wired u p) l)))
 
     -- an array that holds something of each net's stand, after track t + 1
     module _ {B : Type 0} (of : Stand → B) (rest : List B) where
-      of-next : marked (place job) (λ p. of (wired (suc t) p)) wires (map (λ n. of (standFrom 1 trs n.number)) job.nets ++ rest) ≡
-          map (λ n. of (standFrom 1 (firstTracks job (suc t)) n.number)) job.nets ++ rest
-      of-next =
-          marked_all (place job) (λ p. of (wired (suc t) p)) job.nets a.numbers-rise rest wires (λ n. of (standFrom 1 trs n.number))
-          (wires-indexed (onFirst job t) (suc t)) (wires-differ (onFirst job t) (suc t)) ∙
+      of_next : marked (place job) (λ p. of (wired (suc t) p)) wires (map (λ n. of (stand_from 1 trs n.number)) job.nets ++ rest) ≡
+          map (λ n. of (stand_from 1 (first_tracks job (suc t)) n.number)) job.nets ++ rest
+      of_next =
+          marked_all (place job) (λ p. of (wired (suc t) p)) job.nets a.numbers_rise rest wires (λ n. of (stand_from 1 trs n.number))
+          (wires_indexed (on_first job t) (suc t)) (wires_differ (on_first job t) (suc t)) ∙
           ap (λ l. l ++ rest) (map_same _ _ job.nets (λ n _.
-          with-map of (wired (suc t)) wires (λ m. standFrom 1 trs m.number) n ∙ ap of (next-stand n) ∙
-          ap (λ l. of (standFrom 1 l n.number)) (sym (first_next job t h))))
+          with_map of (wired (suc t)) wires (λ m. stand_from 1 trs m.number) n ∙ ap of (next_stand n) ∙
+          ap (λ l. of (stand_from 1 l n.number)) (sym (first_next job t h))))
 
-    pub nets-next : marked (place job) (λ p. record { stand = wired (suc t) p }) wires (progressTo job t).nets ≡ (progressTo job (suc t)).nets
-    unfolding progressOf storedPlan
-    nets-next = of-next (λ s. record { stand = s }) (replicate (512 - length job.nets) noPlan)
+    pub nets_next : marked (place job) (λ p. record { stand = wired (suc t) p }) wires (progress_to job t).nets ≡ (progress_to job (suc t)).nets
+    unfolding progress_of stored_plan
+    nets_next = of_next (λ s. record { stand = s }) (replicate (512 - length job.nets) no_plan)
 
-    pub placed-next : marked (place job) (λ p. suc t) wires (progressTo job t).placed ≡ (progressTo job (suc t)).placed
-    unfolding progressOf
-    placed-next = of-next trackOf (replicate (512 - length job.nets) 0)
+    pub placed_next : marked (place job) (λ p. suc t) wires (progress_to job t).placed ≡ (progress_to job (suc t)).placed
+    unfolding progress_of
+    placed_next = of_next track_of (replicate (512 - length job.nets) 0)
 
-    pub sums_next : set (progressTo job t).sums t (best job (onFirst job t) (suc t) 1) ≡ (progressTo job (suc t)).sums
-    unfolding progressOf storedPlan filledTrack
+    pub sums_next : set (progress_to job t).sums t (best job (on_first job t) (suc t) 1) ≡ (progress_to job (suc t)).sums
+    unfolding progress_of stored_plan filled_track
     sums_next =
-        let n = first-length job t (omega arith) in
-        let n' = first-length job (suc t) (omega arith) in
-        let b = a.board-range in
+        let n = first_length job t (omega arith) in
+        let n' = first_length job (suc t) (omega arith) in
+        let b = a.board_range in
         let e : 128 - length trs ≡ suc (128 - suc t) = omega arith in
-        let s = sums-put trs new (128 - suc t) in
+        let s = sums_put trs new (128 - suc t) in
         rw (n', first_next job t h, e) (rw n at s)

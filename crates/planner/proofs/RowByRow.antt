@@ -8,69 +8,69 @@ use native.Mathlib.Omega.{arith}
 use lib.Dec.{eqb}
 use borrow.Author.Tests.{eqb-true, eqb-false, ne_eqb}
 use Rattle.lists.specs.Lists.{Each, EachPair, first_of}
-use Rattle.lists.proofs.Cases.{by-test}
+use Rattle.lists.proofs.Cases.{by_test}
 use Rattle.lists.proofs.Laws.{Each-map, Each-both}
 use Rattle.board.specs.Placement.{Placement}
 
 -- the placement with its top at a row
-abbrev pub topAt : ℕ → List Placement → Option Placement
-topAt row ps = first_of (λ p. eqb p.top row) ps
+abbrev pub top_at : ℕ → List Placement → Option Placement
+top_at row ps = first_of (λ p. eqb p.top row) ps
 
 abbrev pub list_of : Option Placement → List Placement
 list_of none = []
 list_of (some p) = p ∷ []
 
-top-here : (row : ℕ) (p : Placement) (ps : List Placement) → eqb p.top row ≡ true → topAt row (p ∷ ps) ≡ some p
+top_here : (row : ℕ) (p : Placement) (ps : List Placement) → eqb p.top row ≡ true → top_at row (p ∷ ps) ≡ some p
 unfolding first_of
-top-here row p ps e = rw e
+top_here row p ps e = rw e
 
-top-later : (row : ℕ) (p : Placement) (ps : List Placement) → eqb p.top row ≡ false → topAt row (p ∷ ps) ≡ topAt row ps
+top_later : (row : ℕ) (p : Placement) (ps : List Placement) → eqb p.top row ≡ false → top_at row (p ∷ ps) ≡ top_at row ps
 unfolding first_of
-top-later row p ps e = rw e
+top_later row p ps e = rw e
 
-top-none : (row : ℕ) (ps : List Placement) → Each (λ p. row < p.top) ps → topAt row ps ≡ none
+top_none : (row : ℕ) (ps : List Placement) → Each (λ p. row < p.top) ps → top_at row ps ≡ none
 unfolding first_of
-top-none row [] a = refl
-top-none row (p ∷ ps) a = top-later row p ps (ne_eqb p.top row (λ e. omega (arith, a.0, e))) ∙ top-none row ps a.1
+top_none row [] a = refl
+top_none row (p ∷ ps) a = top_later row p ps (ne_eqb p.top row (λ e. omega (arith, a.0, e))) ∙ top_none row ps a.1
 
 module _ (rows : ℕ) where
   -- those of the last k rows
-  unfoldable pub byRow : ℕ → List Placement → List Placement
-  byRow zero ps = []
-  byRow (suc k) ps = list_of (topAt (rows - k) ps) ++ byRow k ps
+  unfoldable pub by_row : ℕ → List Placement → List Placement
+  by_row zero ps = []
+  by_row (suc k) ps = list_of (top_at (rows - k) ps) ++ by_row k ps
 
-  by-row-nil : (k : ℕ) → byRow k [] ≡ []
-  unfolding byRow first_of
-  by-row-nil zero = refl
-  by-row-nil (suc k) = by-row-nil k
+  by_row_nil : (k : ℕ) → by_row k [] ≡ []
+  unfolding by_row first_of
+  by_row_nil zero = refl
+  by_row_nil (suc k) = by_row_nil k
 
-  by-row-above : (k : ℕ) (p : Placement) (ps : List Placement) → p.top + k ≤ rows → byRow k (p ∷ ps) ≡ byRow k ps
-  unfolding byRow
-  by-row-above zero p ps h = refl
-  by-row-above (suc k) p ps h =
-      rw (top-later (rows - k) p ps (ne_eqb p.top (rows - k) (λ e. omega arith)))
-      (ap (λ l. list_of (topAt (rows - k) ps) ++ l) (by-row-above k p ps (omega arith)))
+  by_row_above : (k : ℕ) (p : Placement) (ps : List Placement) → p.top + k ≤ rows → by_row k (p ∷ ps) ≡ by_row k ps
+  unfolding by_row
+  by_row_above zero p ps h = refl
+  by_row_above (suc k) p ps h =
+      rw (top_later (rows - k) p ps (ne_eqb p.top (rows - k) (λ e. omega arith)))
+      (ap (λ l. list_of (top_at (rows - k) ps) ++ l) (by_row_above k p ps (omega arith)))
 
-  by-row-some : (k : ℕ) (p : Placement) (ps : List Placement) → eqb p.top (rows - k) ≡ true → byRow (suc k) (p ∷ ps) ≡ p ∷ byRow k (p ∷ ps)
-  unfolding byRow
-  by-row-some k p ps e = rw (top-here (rows - k) p ps e)
+  by_row_some : (k : ℕ) (p : Placement) (ps : List Placement) → eqb p.top (rows - k) ≡ true → by_row (suc k) (p ∷ ps) ≡ p ∷ by_row k (p ∷ ps)
+  unfolding by_row
+  by_row_some k p ps e = rw (top_here (rows - k) p ps e)
 
-  by-row-none : (k : ℕ) (ps : List Placement) → topAt (rows - k) ps ≡ none → byRow (suc k) ps ≡ byRow k ps
-  unfolding byRow
-  by-row-none k ps e = rw e
+  by_row_none : (k : ℕ) (ps : List Placement) → top_at (rows - k) ps ≡ none → by_row (suc k) ps ≡ by_row k ps
+  unfolding by_row
+  by_row_none k ps e = rw e
 
-  pub by_row : (k : ℕ) (ps : List Placement) → k ≤ rows → EachPair (λ p q. p.top < q.top) ps → Each (λ p. (rows < p.top + k) × (p.top ≤ rows)) ps → byRow k ps ≡ ps
-  by_row zero [] h r a = by-row-nil 0
-  by_row zero (p ∷ ps) h r a = absurd (omega (arith, a.0))
-  by_row (suc k) [] h r a = by-row-nil (suc k)
-  by_row (suc k) (p ∷ ps) h r a =
-      by-test (eqb p.top (rows - k))
+  pub by_row_lem : (k : ℕ) (ps : List Placement) → k ≤ rows → EachPair (λ p q. p.top < q.top) ps → Each (λ p. (rows < p.top + k) × (p.top ≤ rows)) ps → by_row k ps ≡ ps
+  by_row_lem zero [] h r a = by_row_nil 0
+  by_row_lem zero (p ∷ ps) h r a = absurd (omega (arith, a.0))
+  by_row_lem (suc k) [] h r a = by_row_nil (suc k)
+  by_row_lem (suc k) (p ∷ ps) h r a =
+      by_test (eqb p.top (rows - k))
       (λ e.
       let q : p.top ≡ rows - k = eqb-true p.top (rows - k) e in
-      by-row-some k p ps e ∙ ap (λ l. p ∷ l)
-      (by-row-above k p ps (omega arith) ∙ by_row k ps (omega arith) r.1 (Each-both ps (λ x u v. (omega arith, omega arith)) r.0 a.1)))
+      by_row_some k p ps e ∙ ap (λ l. p ∷ l)
+      (by_row_above k p ps (omega arith) ∙ by_row_lem k ps (omega arith) r.1 (Each-both ps (λ x u v. (omega arith, omega arith)) r.0 a.1)))
       (λ e.
       let q : rows - k < p.top = omega (arith, a.0, eqb-false p.top (rows - k) e) in
       let over : Each (λ x. rows - k < x.top) (p ∷ ps) = (q, Each-map ps (λ x u. omega arith) r.0) in
-      by-row-none k (p ∷ ps) (top-none (rows - k) (p ∷ ps) over) ∙
-      by_row k (p ∷ ps) (omega arith) r ((omega (arith, a.0), omega (arith, a.0)), Each-both ps (λ x u v. (omega arith, omega arith)) r.0 a.1))
+      by_row_none k (p ∷ ps) (top_none (rows - k) (p ∷ ps) over) ∙
+      by_row_lem k (p ∷ ps) (omega arith) r ((omega (arith, a.0), omega (arith, a.0)), Each-both ps (λ x u v. (omega arith, omega arith)) r.0 a.1))

@@ -5,22 +5,22 @@ use lib.ListN.{get_or}
 use Rattle.lists.specs.Lists.{Each}
 use Rattle.board.specs.Length.{shortest}
 use Rattle.board.specs.Job.{Job}
-use Rattle.board.specs.Weight.{weightSum}
-use Rattle.board.specs.Unbeaten.{emptyTrack, Unbeaten}
-use Rattle.planning.specs.Loose.{sumOfTracks}
+use Rattle.board.specs.Weight.{weight_sum}
+use Rattle.board.specs.Unbeaten.{empty_track, Unbeaten}
+use Rattle.planning.specs.Loose.{sum_of_tracks}
 use Rattle.planner.specs.declared.JobPlan.{JobPlan}
-use Rattle.planner.specs.Chosen.{tracksOf, looseNets, BestPlan}
+use Rattle.planner.specs.Chosen.{tracks_of, loose_nets, BestPlan}
 
 module _ (job : Job) (plan : JobPlan) (b : BestPlan job plan) where
   -- no track is beaten
-  pub unbeaten-is : Unbeaten job (tracksOf job plan)
-  unbeaten-is = b.unbeaten
+  pub unbeaten_is : Unbeaten job (tracks_of job plan)
+  unbeaten_is = b.unbeaten
 
   -- each wire is at its net's shortest length
-  pub shortest-is : (i : ℕ) → i < job.board.tracks →
-      Each (λ p. p.shape ≡ shortest job.board p.net) (get_or (tracksOf job plan) i emptyTrack).wires
-  shortest-is = b.at-shortest
+  pub shortest_is : (i : ℕ) → i < job.board.tracks →
+      Each (λ p. p.shape ≡ shortest job.board p.net) (get_or (tracks_of job plan) i empty_track).wires
+  shortest_is = b.at_shortest
 
   -- the sums balance
-  pub balance-is : weightSum job.nets ≡ sumOfTracks (tracksOf job plan) + weightSum (looseNets job plan)
-  balance-is = b.balance
+  pub balance_is : weight_sum job.nets ≡ sum_of_tracks (tracks_of job plan) + weight_sum (loose_nets job plan)
+  balance_is = b.balance

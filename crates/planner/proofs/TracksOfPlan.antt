@@ -12,75 +12,75 @@ use lib.ListN.{length, get_or, drop, replicate, length-map, drop_of_length-le, g
 use lib.Seq.{drop-cons}
 use borrow.Author.Tests.{eqb-true, eq-eqb, ne_eqb}
 use Rattle.lists.specs.Lists.{EachPair}
-use Rattle.lists.proofs.Cases.{by-option}
-use Rattle.lists.proofs.Laws.{Each-map, Each-at, firstOf-some, firstOf-none}
+use Rattle.lists.proofs.Cases.{by_option}
+use Rattle.lists.proofs.Laws.{Each-map, Each-at, first_of_some, first_of_none}
 use Rattle.lists.proofs.Places.{same_key}
 use Rattle.board.specs.declared.Net.{Net}
 use Rattle.board.specs.Job.{Job}
 use Rattle.board.specs.Placement.{Placement}
 use Rattle.board.specs.Rival.{Placeable}
-use Rattle.board.specs.Unbeaten.{FilledTrack, emptyTrack}
+use Rattle.board.specs.Unbeaten.{FilledTrack, empty_track}
 use Rattle.board.specs.Accepted.{AcceptedJob}
-use Rattle.packing.specs.Walk.{wiresOf}
-use Rattle.planning.specs.Plan.{filledTrack, plan_of}
+use Rattle.packing.specs.Walk.{wires_of}
+use Rattle.planning.specs.Plan.{filled_track, plan_of}
 use Rattle.planner.specs.declared.Stand.{Stand}
 use Rattle.planner.specs.declared.Stand.TheVariants.{Loose, Wired}
 use Rattle.planner.specs.declared.NetPlan.{NetPlan}
-use Rattle.planner.specs.JobPlans.{wireWith, standFrom, netPlanOf, noPlan, storedPlan, jobPlanOf}
-use Rattle.planner.specs.Progressed.{trackOf, onFirst}
-use Rattle.planner.specs.Chosen.{standsAt, row_of, lastRows, tracksFrom, tracksOf}
-use Rattle.planner.proofs.Marks.{wire-here, wire-later}
-use Rattle.planner.proofs.Stands.{wired, WireFound, wire-found, stand-at, stand-other}
-use Rattle.planning.proofs.FirstTracks.{plan-length, plan-at}
-use Rattle.planner.proofs.Recorded.{wires-rival, wires-differ, tops-differ, wires-fresh}
-use Rattle.planner.proofs.RowByRow.{topAt, list_of, byRow, by_row}
+use Rattle.planner.specs.JobPlans.{wire_with, stand_from, net_plan_of, no_plan, stored_plan, job_plan_of}
+use Rattle.planner.specs.Progressed.{track_of, on_first}
+use Rattle.planner.specs.Chosen.{stands_at, row_of, last_rows, tracks_from, tracks_of}
+use Rattle.planner.proofs.Marks.{wire_here, wire_later}
+use Rattle.planner.proofs.Stands.{wired, WireFound, wire_found, stand_at, stand_other}
+use Rattle.planning.proofs.FirstTracks.{plan_length, plan_at}
+use Rattle.planner.proofs.Recorded.{wires_rival, wires_differ, tops_differ, wires_fresh}
+use Rattle.planner.proofs.RowByRow.{top_at, list_of, by_row, by_row_lem}
 
 -- ---- lists of placements
 -- a wire is found by its number, where numbers differ
-wire-self : (ps : List Placement) (p : Placement) → EachPair (λ a b. a.net.number ≡ b.net.number → ⊥) ps → Memᴰ p ps → wireWith p.net.number ps ≡ some p
-wire-self [] p d m = absurd (Memᴰ.not-nil m)
-wire-self (x ∷ xs) p d m =
+wire_self : (ps : List Placement) (p : Placement) → EachPair (λ a b. a.net.number ≡ b.net.number → ⊥) ps → Memᴰ p ps → wire_with p.net.number ps ≡ some p
+wire_self [] p d m = absurd (Memᴰ.not-nil m)
+wire_self (x ∷ xs) p d m =
     ⊎_elim
-    (λ (q : p ≡ x). rw q (wire-here x.net.number x xs (eq-eqb x.net.number x.net.number refl)))
+    (λ (q : p ≡ x). rw q (wire_here x.net.number x xs (eq-eqb x.net.number x.net.number refl)))
     (λ m'.
     let other = Each-at (λ b. x.net.number ≡ b.net.number → ⊥) xs p d.0 m' in
-    wire-later p.net.number x xs (ne_eqb x.net.number p.net.number other) ∙ wire-self xs p d.1 m')
+    wire_later p.net.number x xs (ne_eqb x.net.number p.net.number other) ∙ wire_self xs p d.1 m')
     (Memᴰ.cases_cons m)
 
 -- ---- one net
 -- a net that does not stand on track t
-elsewhere : (t row : ℕ) (n : Net) (s : Stand) → (trackOf s ≡ t → ⊥) → standsAt t row n s ≡ []
+elsewhere : (t row : ℕ) (n : Net) (s : Stand) → (track_of s ≡ t → ⊥) → stands_at t row n s ≡ []
 elsewhere t row n Loose h = refl
 elsewhere t row n (Wired u top shape) h = rw (ne_eqb u.0 t h)
 
 -- a net with its wire on track t
-with-top : (t row : ℕ) (p : Placement) → p.top ≡ row → standsAt t row p.net (wired t p) ≡ p ∷ []
-with-top t row p e = rw (← e, eq-eqb t t refl, eq-eqb p.top p.top refl)
+with_top : (t row : ℕ) (p : Placement) → p.top ≡ row → stands_at t row p.net (wired t p) ≡ p ∷ []
+with_top t row p e = rw (← e, eq-eqb t t refl, eq-eqb p.top p.top refl)
 
-other-top : (t row : ℕ) (n : Net) (p : Placement) → (p.top ≡ row → ⊥) → standsAt t row n (wired t p) ≡ []
-other-top t row n p e = rw (eq-eqb t t refl, ne_eqb p.top row e)
+other_top : (t row : ℕ) (n : Net) (p : Placement) → (p.top ≡ row → ⊥) → stands_at t row n (wired t p) ≡ []
+other_top t row n p e = rw (eq-eqb t t refl, ne_eqb p.top row e)
 
 -- ---- one row
 module _ (t row : ℕ) (f : Net → NetPlan) (rest : List NetPlan) where
-  row-empty : (ns : List Net) → ((n : Net) → Memᴰ n ns → standsAt t row n (f n).stand ≡ []) → row_of t row ns (map f ns ++ rest) ≡ []
+  row_empty : (ns : List Net) → ((n : Net) → Memᴰ n ns → stands_at t row n (f n).stand ≡ []) → row_of t row ns (map f ns ++ rest) ≡ []
   unfolding row_of
-  row-empty [] h = refl
-  row-empty (n ∷ ns) h = rw (h n (Memᴰ.head refl)) (row-empty ns (λ m i. h m (Memᴰ.tail i)))
+  row_empty [] h = refl
+  row_empty (n ∷ ns) h = rw (h n (Memᴰ.head refl)) (row_empty ns (λ m i. h m (Memᴰ.tail i)))
 
-  row_one : (ns : List Net) (p : Placement) → EachPair (λ a b. a.number < b.number) ns → Memᴰ p.net ns → standsAt t row p.net (f p.net).stand ≡ p ∷ [] →
-      ((n : Net) → Memᴰ n ns → (n.number ≡ p.net.number → ⊥) → standsAt t row n (f n).stand ≡ []) → row_of t row ns (map f ns ++ rest) ≡ p ∷ []
+  row_one : (ns : List Net) (p : Placement) → EachPair (λ a b. a.number < b.number) ns → Memᴰ p.net ns → stands_at t row p.net (f p.net).stand ≡ p ∷ [] →
+      ((n : Net) → Memᴰ n ns → (n.number ≡ p.net.number → ⊥) → stands_at t row n (f n).stand ≡ []) → row_of t row ns (map f ns ++ rest) ≡ p ∷ []
   unfolding row_of
   row_one [] p rise m e h = absurd (Memᴰ.not-nil m)
   row_one (n ∷ ns) p rise m e h =
       ⊎_elim
       (λ (q : p.net ≡ n).
-      let e' : standsAt t row n (f n).stand ≡ p ∷ [] = sym (ap (λ x. standsAt t row x (f x).stand) q) ∙ e in
-      rw e' (ap (λ l. p ∷ l) (row-empty ns (λ x i.
+      let e' : stands_at t row n (f n).stand ≡ p ∷ [] = sym (ap (λ x. stands_at t row x (f x).stand) q) ∙ e in
+      rw e' (ap (λ l. p ∷ l) (row_empty ns (λ x i.
       let l = Each-at (λ z. n.number < z.number) ns x rise.0 i in
       h x (Memᴰ.tail i) (λ z. omega (arith, z, ap (λ (y : Net). y.number) q))))))
       (λ m'.
       let l = Each-at (λ z. n.number < z.number) ns p.net rise.0 m' in
-      let e' : standsAt t row n (f n).stand ≡ [] = h n (Memᴰ.head refl) (λ z. omega arith) in
+      let e' : stands_at t row n (f n).stand ≡ [] = h n (Memᴰ.head refl) (λ z. omega arith) in
       rw e' (row_one ns p rise.1 m' e (λ x i. h x (Memᴰ.tail i))))
       (Memᴰ.cases_cons m)
 
@@ -88,86 +88,86 @@ module _ (job : Job) (a : AcceptedJob job) where
   -- ---- one track
   module _ (i : ℕ) (h : i < job.board.tracks) where
     abbrev ws : List Placement
-    ws = wiresOf job (onFirst job i) (suc i)
+    ws = wires_of job (on_first job i) (suc i)
 
     abbrev stand : Net → Stand
-    stand n = standFrom 1 (plan_of job) n.number
+    stand n = stand_from 1 (plan_of job) n.number
 
-    wires-at : (get_or (plan_of job) i emptyTrack).wires ≡ ws
-    unfolding filledTrack
-    wires-at = ap (λ (x : FilledTrack). x.wires) (plan-at job i emptyTrack h)
+    wires_at : (get_or (plan_of job) i empty_track).wires ≡ ws
+    unfolding filled_track
+    wires_at = ap (λ (x : FilledTrack). x.wires) (plan_at job i empty_track h)
 
     -- a net that has a wire on the track, and one that has none
-    on-track : (k : ℕ) (p : Placement) → wireWith k ws ≡ some p → standFrom 1 (plan_of job) k ≡ wired (suc i) p
-    on-track k p e =
+    on_track : (k : ℕ) (p : Placement) → wire_with k ws ≡ some p → stand_from 1 (plan_of job) k ≡ wired (suc i) p
+    on_track k p e =
         let s : 1 + i ≡ suc i = omega arith in
-        let e' : wireWith k (get_or (plan_of job) i emptyTrack).wires ≡ some p = rw wires-at e in
-        stand-at 1 k (plan_of job) i p (wires-fresh job a (onFirst job i) (suc i) k p e) e' ∙ ap (λ u. wired u p) s
+        let e' : wire_with k (get_or (plan_of job) i empty_track).wires ≡ some p = rw wires_at e in
+        stand_at 1 k (plan_of job) i p (wires_fresh job a (on_first job i) (suc i) k p e) e' ∙ ap (λ u. wired u p) s
 
-    off-track : (k : ℕ) → wireWith k ws ≡ none → trackOf (standFrom 1 (plan_of job) k) ≡ suc i → ⊥
-    off-track k e q =
-        let e' : wireWith k (get_or (plan_of job) i emptyTrack).wires ≡ none = rw wires-at e in
-        stand-other 1 k (plan_of job) i (omega arith) e' (omega arith)
+    off_track : (k : ℕ) → wire_with k ws ≡ none → track_of (stand_from 1 (plan_of job) k) ≡ suc i → ⊥
+    off_track k e q =
+        let e' : wire_with k (get_or (plan_of job) i empty_track).wires ≡ none = rw wires_at e in
+        stand_other 1 k (plan_of job) i (omega arith) e' (omega arith)
 
     -- a net stands at a row only by a wire whose top is there
     module _ (row : ℕ) where
-      not_at : (n : Net) → ((p : Placement) → WireFound n.number ws p → p.top ≡ row → ⊥) → standsAt (suc i) row n (stand n) ≡ []
+      not_at : (n : Net) → ((p : Placement) → WireFound n.number ws p → p.top ≡ row → ⊥) → stands_at (suc i) row n (stand n) ≡ []
       not_at n g =
-          by-option (wireWith n.number ws)
-          (λ e. elsewhere (suc i) row n (stand n) (off-track n.number e))
-          (λ p e. rw (on-track n.number p e) (other-top (suc i) row n p (g p (wire-found n.number ws p e))))
+          by_option (wire_with n.number ws)
+          (λ e. elsewhere (suc i) row n (stand n) (off_track n.number e))
+          (λ p e. rw (on_track n.number p e) (other_top (suc i) row n p (g p (wire_found n.number ws p e))))
 
       abbrev f : Net → NetPlan
-      f n = netPlanOf (plan_of job) n
+      f n = net_plan_of (plan_of job) n
 
-      pub row_is : (rest : List NetPlan) → row_of (suc i) row job.nets (map f job.nets ++ rest) ≡ list_of (topAt row ws)
+      pub row_is : (rest : List NetPlan) → row_of (suc i) row job.nets (map f job.nets ++ rest) ≡ list_of (top_at row ws)
       row_is rest =
-          let r = wires-rival job a (onFirst job i) (suc i) in
-          by-option (topAt row ws)
-          (λ e. rw e (row-empty (suc i) row f rest job.nets (λ n m. not_at n (λ p w q.
-          true≢false (sym (eq-eqb p.top row q) ∙ firstOf-none (λ x. eqb x.top row) ws p e w.listed)))))
+          let r = wires_rival job a (on_first job i) (suc i) in
+          by_option (top_at row ws)
+          (λ e. rw e (row_empty (suc i) row f rest job.nets (λ n m. not_at n (λ p w q.
+          true≢false (sym (eq-eqb p.top row q) ∙ first_of_none (λ x. eqb x.top row) ws p e w.listed)))))
           (λ p e.
-          let found = firstOf-some (λ x. eqb x.top row) ws p e in
+          let found = first_of_some (λ x. eqb x.top row) ws p e in
           let top : p.top ≡ row = eqb-true p.top row found.1 in
-          let v = Each-at (Placeable job (onFirst job i) (suc i)) ws p r.placeable found.0 in
-          let self = on-track p.net.number p (wire-self ws p (wires-differ job a (onFirst job i) (suc i)) found.0) in
-          rw e (row_one (suc i) row f rest job.nets p a.numbers-rise v.of-job
-          (rw self (with-top (suc i) row p top))
+          let v = Each-at (Placeable job (on_first job i) (suc i)) ws p r.placeable found.0 in
+          let self = on_track p.net.number p (wire_self ws p (wires_differ job a (on_first job i) (suc i)) found.0) in
+          rw e (row_one (suc i) row f rest job.nets p a.numbers_rise v.of_job
+          (rw self (with_top (suc i) row p top))
           (λ n m d. not_at n (λ q w u.
-          d (sym w.number_is ∙ ap (λ (x : Placement). x.net.number) (same_key (λ (x : Placement). x.top) ws (tops-differ job a (onFirst job i) (suc i)) q p w.listed found.0 (u ∙ sym top)))))))
+          d (sym w.number_is ∙ ap (λ (x : Placement). x.net.number) (same_key (λ (x : Placement). x.top) ws (tops_differ job a (on_first job i) (suc i)) q p w.listed found.0 (u ∙ sym top)))))))
 
-    rows_are : (k : ℕ) → lastRows job (jobPlanOf job) (suc i) k ≡ byRow job.board.rows k ws
-    unfolding lastRows byRow jobPlanOf storedPlan
+    rows_are : (k : ℕ) → last_rows job (job_plan_of job) (suc i) k ≡ by_row job.board.rows k ws
+    unfolding last_rows by_row job_plan_of stored_plan
     rows_are zero = refl
-    rows_are (suc k) = ap₂ ◌++◌ (row_is (job.board.rows - k) (replicate (512 - length job.nets) noPlan)) (rows_are k)
+    rows_are (suc k) = ap₂ ◌++◌ (row_is (job.board.rows - k) (replicate (512 - length job.nets) no_plan)) (rows_are k)
 
-    pub wires-back : lastRows job (jobPlanOf job) (suc i) job.board.rows ≡ ws
-    wires-back =
-        let r = wires-rival job a (onFirst job i) (suc i) in
+    pub wires_back : last_rows job (job_plan_of job) (suc i) job.board.rows ≡ ws
+    wires_back =
+        let r = wires_rival job a (on_first job i) (suc i) in
         rows_are job.board.rows ∙
-        by_row job.board.rows job.board.rows ws (omega arith) r.rising
+        by_row_lem job.board.rows job.board.rows ws (omega arith) r.rising
         (Each-map ws (λ p v. let l = v.legal in (omega arith, omega arith)) r.placeable)
 
-    sum_back : get_or (jobPlanOf job).sums i 0 ≡ (get_or (plan_of job) i emptyTrack).sum
-    unfolding jobPlanOf storedPlan
+    sum_back : get_or (job_plan_of job).sums i 0 ≡ (get_or (plan_of job) i empty_track).sum
+    unfolding job_plan_of stored_plan
     sum_back =
-        get_or-append (map (λ x. x.sum) (plan_of job)) _ 0 i (omega (arith, length-map (plan_of job) (λ x. x.sum), plan-length job)) ∙
-        get_or-map (λ (x : FilledTrack). x.sum) (plan_of job) i emptyTrack
+        get_or-append (map (λ x. x.sum) (plan_of job)) _ 0 i (omega (arith, length-map (plan_of job) (λ x. x.sum), plan_length job)) ∙
+        get_or-map (λ (x : FilledTrack). x.sum) (plan_of job) i empty_track
 
-    track-back : record { sum = get_or (jobPlanOf job).sums (suc i - 1) 0; wires = lastRows job (jobPlanOf job) (suc i) job.board.rows } ≡ get_or (plan_of job) i emptyTrack
-    track-back =
+    track_back : record { sum = get_or (job_plan_of job).sums (suc i - 1) 0; wires = last_rows job (job_plan_of job) (suc i) job.board.rows } ≡ get_or (plan_of job) i empty_track
+    track_back =
         let e : suc i - 1 ≡ i = omega arith in
-        let s = ap (λ x. get_or (jobPlanOf job).sums x 0) e ∙ sum_back in
-        let w = wires-back ∙ sym wires-at in
+        let s = ap (λ x. get_or (job_plan_of job).sums x 0) e ∙ sum_back in
+        let w = wires_back ∙ sym wires_at in
         λ x. record { sum = s x; wires = w x }
 
   -- ---- all tracks
-  tracks-back : (k u : ℕ) → u + k ≡ job.board.tracks → tracksFrom job (jobPlanOf job) k (suc u) ≡ drop u (plan_of job)
-  unfolding tracksFrom
-  tracks-back zero u e = sym (drop_of_length-le (plan_of job) {i = u} (omega (arith, plan-length job)))
-  tracks-back (suc k) u e =
-      ap₂ ◌∷◌ (track-back u (omega arith)) (tracks-back k (suc u) (omega arith)) ∙ sym (drop-cons (plan_of job) u emptyTrack (omega (arith, plan-length job)))
+  tracks_back : (k u : ℕ) → u + k ≡ job.board.tracks → tracks_from job (job_plan_of job) k (suc u) ≡ drop u (plan_of job)
+  unfolding tracks_from
+  tracks_back zero u e = sym (drop_of_length-le (plan_of job) {i = u} (omega (arith, plan_length job)))
+  tracks_back (suc k) u e =
+      ap₂ ◌∷◌ (track_back u (omega arith)) (tracks_back k (suc u) (omega arith)) ∙ sym (drop-cons (plan_of job) u empty_track (omega (arith, plan_length job)))
 
-  pub tracks-of-plan : tracksOf job (jobPlanOf job) ≡ plan_of job
-  unfolding tracksOf
-  tracks-of-plan = tracks-back job.board.tracks 0 (omega arith)
+  pub tracks_of_plan : tracks_of job (job_plan_of job) ≡ plan_of job
+  unfolding tracks_of
+  tracks_of_plan = tracks_back job.board.tracks 0 (omega arith)

@@ -6,8 +6,8 @@ ghost use Rattle.board.specs.Accepted.{AcceptedJob};
 ghost use Rattle.board.specs.Stored.{job_of};
 ghost use Rattle.board.specs.Stored.{AcceptedStored};
 ghost use Rattle.planner.specs.Chosen.{BestPlan};
-ghost use Rattle.planner.specs.JobPlans.{jobPlanOf};
-ghost use Rattle.planner.specs.Progressed.{OnTurn, noProgress, progressTo, trackPlan};
+ghost use Rattle.planner.specs.JobPlans.{job_plan_of};
+ghost use Rattle.planner.specs.Progressed.{OnTurn, no_progress, progress_to, track_plan};
 
 use board::{Row, Shape, StoredJob, Track, needed, shortest};
 use candidates::preceding;
@@ -50,8 +50,8 @@ pub struct Progress {
 pub fn record_track(p: &mut Progress, job: &StoredJob, plan: &TrackPlan, track: Track)
     requires accepted_job { AcceptedJob (job_of job.now) }
     requires on_turn { OnTurn (job_of job.now) track.0 p.old }
-    requires plan_value { plan.now ≡ trackPlan (job_of job.now) track.0 }
-    ensures { p.new ≡ progressTo (job_of job.now) track.0 }
+    requires plan_value { plan.now ≡ track_plan (job_of job.now) track.0 }
+    ensures { p.new ≡ progress_to (job_of job.now) track.0 }
 {
     let t = track.0;
     p.sums[t - 1] = plan.sum;
@@ -80,7 +80,7 @@ pub fn record_track(p: &mut Progress, job: &StoredJob, plan: &TrackPlan, track: 
 
 // Nothing planned yet: every net is loose.
 fn no_progress() -> Progress
-    ensures { result ≡ noProgress }
+    ensures { result ≡ no_progress }
 {
     let loose = NetPlan {
         stand: Stand::Loose,
@@ -96,7 +96,7 @@ fn no_progress() -> Progress
 fn plan_tracks(job: &StoredJob, flags: &mut [u8]) -> JobPlan
     requires accepted_stored { AcceptedStored job.now }
     requires flags_room { job.now.nnets * 1088 ≤ length flags.old }
-    ensures answer { result ≡ jobPlanOf (job_of job.now) }
+    ensures answer { result ≡ job_plan_of (job_of job.now) }
     ensures best { BestPlan (job_of job.now) result }
 {
     let before = preceding(job);
@@ -117,7 +117,7 @@ fn plan_tracks(job: &StoredJob, flags: &mut [u8]) -> JobPlan
 fn plan_few(job: &StoredJob) -> JobPlan
     requires accepted_stored { AcceptedStored job.now }
     requires few { job.now.nnets ≤ 64 }
-    ensures answer { result ≡ jobPlanOf (job_of job.now) }
+    ensures answer { result ≡ job_plan_of (job_of job.now) }
     ensures best { BestPlan (job_of job.now) result }
 {
     let mut flags = [0u8; 69632];
@@ -132,7 +132,7 @@ fn all_flags() -> [u8; 557056] {
 // The plan of a job of any number of nets.
 fn plan_many(job: &StoredJob) -> JobPlan
     requires { AcceptedStored job.now }
-    ensures answer { result ≡ jobPlanOf (job_of job.now) }
+    ensures answer { result ≡ job_plan_of (job_of job.now) }
     ensures best { BestPlan (job_of job.now) result }
 {
     let mut flags = all_flags();
@@ -142,7 +142,7 @@ fn plan_many(job: &StoredJob) -> JobPlan
 // The plan of a job. No track of it is beaten, and each wire is at its shortest length.
 pub fn plan_job(job: &StoredJob) -> JobPlan
     requires { AcceptedStored job.now }
-    ensures answer { result ≡ jobPlanOf (job_of job.now) }
+    ensures answer { result ≡ job_plan_of (job_of job.now) }
     ensures best { BestPlan (job_of job.now) result }
 {
     if job.nnets <= 64 {

@@ -11,72 +11,72 @@ use borrow.Author.Tests.{le-leb}
 use Rattle.board.specs.Job.{Job}
 use Rattle.board.specs.Accepted.{AcceptedJob}
 use Rattle.text.specs.Written.{Written, over}
-use Rattle.text.proofs.Writing.{start-written}
-use Rattle.jobfile.specs.Read.{Read, accepted, refused, readJob}
+use Rattle.text.proofs.Writing.{start_written}
+use Rattle.jobfile.specs.Read.{Read, accepted, refused, read_job}
 use Rattle.jobfile.specs.OfAccepted.{OfAccepted}
-use Rattle.jobfile.proofs.Accepts.{read-accepted}
-use Rattle.jobfile.proofs.Refusals.{read-refused, fault-from}
-use Rattle.reader.specs.Reports.{refusedText}
-use Rattle.reader.proofs.Reports.{refused-short}
+use Rattle.jobfile.proofs.Accepts.{read_accepted}
+use Rattle.jobfile.proofs.Refusals.{read_refused, fault_from}
+use Rattle.reader.specs.Reports.{refused_text}
+use Rattle.reader.proofs.Reports.{refused_short}
 use Rattle.answers.specs.declared.TextAnswer.{TextAnswer}
 use Rattle.answers.specs.declared.TextAnswer.TheVariants as Is
-use Rattle.answers.specs.Answers.{answerValues, answerFor, bufferFor, textAnswer, bufferAfter}
-use Rattle.printing.specs.Printed.{printedText, RefusalFits, Reported}
+use Rattle.answers.specs.Answers.{answer_values, answer_for, buffer_for, text_answer, buffer_after}
+use Rattle.printing.specs.Printed.{printed_text, RefusalFits, Reported}
 
 -- ---- the buffer becomes what is printed
 
-module _ (a : TextAnswer) {n : ℕ} (e : n ≡ (answerValues a).number) where
+module _ (a : TextAnswer) {n : ℕ} (e : n ≡ (answer_values a).number) where
   -- no number: it stays as it is
-  pub text-reported : (before : List ℕ) {r : ℕ} → n ≡ 0 → r ≡ (answerValues a).bytes → Reported a before before r
-  text-reported before z g = record { as_written = λ q. (g, refl); as-refused = λ q. absurd (q (sym e ∙ z)) }
+  pub text_reported : (before : List ℕ) {r : ℕ} → n ≡ 0 → r ≡ (answer_values a).bytes → Reported a before before r
+  text_reported before z g = record { as_written = λ q. (g, refl); as_refused = λ q. absurd (q (sym e ∙ z)) }
 
-  module _ (z : n ≡ 0 → ⊥) {l : ℕ} (f : l ≡ (answerValues a).line) where
+  module _ (z : n ≡ 0 → ⊥) {l : ℕ} (f : l ≡ (answer_values a).line) where
     -- a number: its line fits, and is written
-    pub refusal-room : (out : List ℕ) → RefusalFits a out → length (refusedText n l) ≤ length out
-    refusal-room out h = rw (e, f) (h (λ q. z (e ∙ q)))
+    pub refusal_room : (out : List ℕ) → RefusalFits a out → length (refused_text n l) ≤ length out
+    refusal_room out h = rw (e, f) (h (λ q. z (e ∙ q)))
 
-    pub refusal-reported : {before after : List ℕ} {r : ℕ} → Written (refusedText n l) before after r → Reported a before after r
-    refusal-reported w = record { as_written = λ q. absurd (z (e ∙ q)); as-refused = λ q. rw (e, f) at w }
+    pub refusal_reported : {before after : List ℕ} {r : ℕ} → Written (refused_text n l) before after r → Reported a before after r
+    refusal_reported w = record { as_written = λ q. absurd (z (e ∙ q)); as_refused = λ q. rw (e, f) at w }
 
 -- ---- which is what the program prints
 
 module _ (text : Job → List ℕ) (short : (job : Job) → AcceptedJob job → length (text job) ≤ 64000) (file before : List ℕ) (room : length before ≡ 64000) where
   -- every text fits
-  text-fits : (job : Job) → readJob file ≡ accepted job → leb (length (text job)) (length before) ≡ true
-  text-fits job e = le-leb (length (text job)) (length before) (omega (arith, short job (read-accepted file job e)))
+  text_fits : (job : Job) → read_job file ≡ accepted job → leb (length (text job)) (length before) ≡ true
+  text_fits job e = le-leb (length (text job)) (length before) (omega (arith, short job (read_accepted file job e)))
 
   -- the line of a refusal has room, by what the file is read as
-  fits_by : (y : Read) → readJob file ≡ y → RefusalFits (textAnswer text y (length before)) (bufferAfter text y before)
-  unfolding textAnswer answerFor bufferAfter
-  fits_by (accepted job) e z = absurd (z (rw (text-fits job e)))
-  fits_by (refused o) e z = omega (arith, refused-short file o e)
+  fits_by : (y : Read) → read_job file ≡ y → RefusalFits (text_answer text y (length before)) (buffer_after text y before)
+  unfolding text_answer answer_for buffer_after
+  fits_by (accepted job) e z = absurd (z (rw (text_fits job e)))
+  fits_by (refused o) e z = omega (arith, refused_short file o e)
 
   -- what the buffer becomes is what is printed
-  printed-by : (y : Read) → readJob file ≡ y → {last : List ℕ} {r : ℕ} → Reported (textAnswer text y (length before)) (bufferAfter text y before) last r →
-      Written (printedText text y) before last r
-  unfolding textAnswer answerFor bufferAfter bufferFor printedText
-  printed-by (accepted job) e {last} {r} w =
-      let h : Reported (Is.Written (length (text job))) (over (text job) before) last r = rw (text-fits job e) at w in
+  printed_by : (y : Read) → read_job file ≡ y → {last : List ℕ} {r : ℕ} → Reported (text_answer text y (length before)) (buffer_after text y before) last r →
+      Written (printed_text text y) before last r
+  unfolding text_answer answer_for buffer_after buffer_for printed_text
+  printed_by (accepted job) e {last} {r} w =
+      let h : Reported (Is.Written (length (text job))) (over (text job) before) last r = rw (text_fits job e) at w in
       record { used = (h.as_written refl).0; bytes = (h.as_written refl).1 }
-  printed-by (refused o) e w = w.as-refused (λ z. omega (arith, z, fault-from file o (read-refused file o e).fault))
+  printed_by (refused o) e w = w.as_refused (λ z. omega (arith, z, fault_from file o (read_refused file o e).fault))
 
   -- what the code holds: the answer and the buffer afterwards
-  module _ {a : TextAnswer} {after : List ℕ} (e : a ≡ textAnswer text (readJob file) (length before)) (f : after ≡ bufferAfter text (readJob file) before) where
-    pub refusal-fits : RefusalFits a after
-    refusal-fits = rw (e, f) (fits_by (readJob file) refl)
+  module _ {a : TextAnswer} {after : List ℕ} (e : a ≡ text_answer text (read_job file) (length before)) (f : after ≡ buffer_after text (read_job file) before) where
+    pub refusal_fits : RefusalFits a after
+    refusal_fits = rw (e, f) (fits_by (read_job file) refl)
 
-    pub report-printed : {last : List ℕ} {r : ℕ} → Reported a after last r → Written (printedText text (readJob file)) before last r
-    report-printed {last} {r} w =
-        let h : Reported (textAnswer text (readJob file) (length before)) (bufferAfter text (readJob file) before) last r = rw (e, f) at w in
-        printed-by (readJob file) refl h
+    pub report_printed : {last : List ℕ} {r : ℕ} → Reported a after last r → Written (printed_text text (read_job file)) before last r
+    report_printed {last} {r} w =
+        let h : Reported (text_answer text (read_job file) (length before)) (buffer_after text (read_job file) before) last r = rw (e, f) at w in
+        printed_by (read_job file) refl h
 
 -- what holds of the text of every accepted job holds of what is printed, where the file is accepted
-module _ (text : Job → List ℕ) (file before : List ℕ) {last : List ℕ} {r : ℕ} (w : Written (printedText text (readJob file)) before last r)
+module _ (text : Job → List ℕ) (file before : List ℕ) {last : List ℕ} {r : ℕ} (w : Written (printed_text text (read_job file)) before last r)
     (P : Job → List ℕ → Type 0) (p : (job : Job) → AcceptedJob job → P job (text job)) where
-  held_by : (y : Read) → readJob file ≡ y → (bytes : List ℕ) → bytes ≡ printedText text y → OfAccepted (λ j. P j bytes) y
-  unfolding printedText
-  held_by (accepted job) e bytes q = rw q (p job (read-accepted file job e))
+  held_by : (y : Read) → read_job file ≡ y → (bytes : List ℕ) → bytes ≡ printed_text text y → OfAccepted (λ j. P j bytes) y
+  unfolding printed_text
+  held_by (accepted job) e bytes q = rw q (p job (read_accepted file job e))
   held_by (refused o) e bytes q = tt
 
-  pub held-printed : OfAccepted (λ j. P j (take r last)) (readJob file)
-  held-printed = held_by (readJob file) refl (take r last) (start-written w)
+  pub held_printed : OfAccepted (λ j. P j (take r last)) (read_job file)
+  held_printed = held_by (read_job file) refl (take r last) (start_written w)

@@ -3,15 +3,15 @@
 
 ghost use Rattle.std.specs.Prelude.{replicate, take};
 ghost use Rattle.text.specs.Written.{Written};
-ghost use Rattle.jobfile.specs.Read.{readJob};
+ghost use Rattle.jobfile.specs.Read.{read_job};
 ghost use Rattle.jobfile.specs.OfAccepted.{OfAccepted};
 ghost use Rattle.planning.specs.Plan.{plan_of};
 ghost use Rattle.sound.specs.Sound.{Sound};
-ghost use Rattle.routing.specs.Route.{routeText};
+ghost use Rattle.routing.specs.Route.{route_text};
 ghost use Rattle.routing.specs.Promises.{ShortestText, UnbeatenText};
-ghost use Rattle.house.specs.HouseText.{houseText};
+ghost use Rattle.house.specs.HouseText.{house_text};
 ghost use Rattle.house.specs.Promises.{IsFixed, ReadsBack, OneText, FixedAgain};
-ghost use Rattle.printing.specs.Printed.{printedText, RefusalFits, Reported};
+ghost use Rattle.printing.specs.Printed.{printed_text, RefusalFits, Reported};
 
 use answers::TextAnswer;
 
@@ -37,10 +37,10 @@ fn put_report(out: &mut [u8], answer: TextAnswer) -> usize
 
 // Routes a job, and gives what the program prints for it: the layout, or the line of the refusal.
 pub fn print_route(job: &[u8]) -> Printed
-    ensures printed { Written (printedText routeText (readJob job.now)) (replicate 64000 0) result.bytes result.used }
-    ensures shortest { OfAccepted (λ j. ShortestText j (plan_of j) (take result.used result.bytes)) (readJob job.now) }
-    ensures sound { OfAccepted (λ j. Sound j (take result.used result.bytes)) (readJob job.now) }
-    ensures unbeaten { OfAccepted (λ j. UnbeatenText j (take result.used result.bytes)) (readJob job.now) }
+    ensures printed { Written (printed_text route_text (read_job job.now)) (replicate 64000 0) result.bytes result.used }
+    ensures shortest { OfAccepted (λ j. ShortestText j (plan_of j) (take result.used result.bytes)) (read_job job.now) }
+    ensures sound { OfAccepted (λ j. Sound j (take result.used result.bytes)) (read_job job.now) }
+    ensures unbeaten { OfAccepted (λ j. UnbeatenText j (take result.used result.bytes)) (read_job job.now) }
 {
     let mut bytes = [0u8; 64000];
     let answer = router::route(job, &mut bytes);
@@ -50,11 +50,11 @@ pub fn print_route(job: &[u8]) -> Printed
 
 // Writes the fixed text of a job, and gives what the program prints for it: that text, or the line of the refusal.
 pub fn print_house(job: &[u8]) -> Printed
-    ensures printed { Written (printedText houseText (readJob job.now)) (replicate 64000 0) result.bytes result.used }
-    ensures fixed { OfAccepted (λ j. IsFixed j (take result.used result.bytes)) (readJob job.now) }
-    ensures read_back { OfAccepted (λ j. ReadsBack j (take result.used result.bytes)) (readJob job.now) }
-    ensures one_text { OfAccepted (λ j. OneText j (take result.used result.bytes)) (readJob job.now) }
-    ensures again { OfAccepted (λ j. FixedAgain (take result.used result.bytes)) (readJob job.now) }
+    ensures printed { Written (printed_text house_text (read_job job.now)) (replicate 64000 0) result.bytes result.used }
+    ensures fixed { OfAccepted (λ j. IsFixed j (take result.used result.bytes)) (read_job job.now) }
+    ensures read_back { OfAccepted (λ j. ReadsBack j (take result.used result.bytes)) (read_job job.now) }
+    ensures one_text { OfAccepted (λ j. OneText j (take result.used result.bytes)) (read_job job.now) }
+    ensures again { OfAccepted (λ j. FixedAgain (take result.used result.bytes)) (read_job job.now) }
 {
     let mut bytes = [0u8; 64000];
     let answer = housestyle::house(job, &mut bytes);

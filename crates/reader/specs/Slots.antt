@@ -7,5 +7,5 @@ use Rattle.jobfile.specs.Read.{refused}
 use Rattle.jobfile.specs.Answers.{number_of, answer_of}
 
 -- the job in the slots if it is accepted, otherwise the refusal, whatever the slots hold
-unfoldable pub answerWith : Outcome → StoredJob → Answer
-answerWith o slots = cond (eqb (number_of o) 0) (record { outcome = o; job = slots }) (answer_of (refused o))
+unfoldable pub answer_with : Outcome → StoredJob → Answer
+answer_with o slots = cond (eqb (number_of o) 0) (record { outcome = o; job = slots }) (answer_of (refused o))

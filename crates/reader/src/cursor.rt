@@ -1,6 +1,6 @@
 // The reading place of a job: a cursor by value.
 ghost use Rattle.std.specs.Prelude.{◌≡◌, ◌≤◌};
-ghost use Rattle.reader.specs.Cursors.{formStep};
+ghost use Rattle.reader.specs.Cursors.{form_step};
 
 use jobfile::Form;
 use lines::{Place, Step};
@@ -30,7 +30,7 @@ impl Cursor {
     // Reads the form of the line here, and moves on by that line.
     pub fn next(self, s: &[u8]) -> FormStep
         requires { self.place.passed ≤ self.place.at }
-        ensures { result ≡ formStep s.now self }
+        ensures { result ≡ form_step s.now self }
     {
         let here = self.place;
         match here.next_line(s) {

@@ -6,12 +6,12 @@ pub mod report;
 
 ghost use Rattle.std.specs.Prelude.{◌≡◌, ◌≤◌, length};
 ghost use Rattle.text.specs.Bytes.{lines};
-ghost use Rattle.jobfile.specs.Read.{start, ended, refused, readFrom, readJob};
-ghost use Rattle.board.specs.Stored.{storedOf};
-ghost use Rattle.jobfile.specs.Answers.{noJob, answer_of};
+ghost use Rattle.jobfile.specs.Read.{start, ended, refused, read_from, read_job};
+ghost use Rattle.board.specs.Stored.{stored_of};
+ghost use Rattle.jobfile.specs.Answers.{no_job, answer_of};
 ghost use Rattle.jobfile.specs.RightAnswer.{RightAnswer};
-ghost use Rattle.jobsteps.specs.LinesAbove.{state_of, Held, jobAbove};
-ghost use Rattle.reader.specs.Slots.{answerWith};
+ghost use Rattle.jobsteps.specs.LinesAbove.{state_of, Held, job_above};
+ghost use Rattle.reader.specs.Slots.{answer_with};
 
 use board::StoredJob;
 use cursor::{Cursor, FormStep};
@@ -31,8 +31,8 @@ fn refusal(outcome: Outcome) -> Answer
 // The end of a text, where `line` is the line after the last: a text without its closing bracket ends early. Otherwise the slots get the
 // size of the board and the counts, and are the job.
 fn finish(above: &LinesAbove, slots: &mut StoredJob, line: usize) -> Outcome
-    requires { Held above.now.stage (jobAbove above.now slots.old) }
-    ensures { answerWith result slots.new ≡ answer_of (ended line (state_of above.now.stage (jobAbove above.now slots.old))) }
+    requires { Held above.now.stage (job_above above.now slots.old) }
+    ensures { answer_with result slots.new ≡ answer_of (ended line (state_of above.now.stage (job_above above.now slots.old))) }
 {
     if above.stage < CLOSED {
         return Outcome::NotOfForm(line);
@@ -49,8 +49,8 @@ fn finish(above: &LinesAbove, slots: &mut StoredJob, line: usize) -> Outcome
 // are lent, as a job by value would be copied.
 fn read_lines(text: &[u8], slots: &mut StoredJob) -> Outcome
     requires short { length text.now ≤ 64000 }
-    requires empty { slots.old ≡ storedOf noJob }
-    ensures { answerWith result slots.new ≡ answer_of (readFrom 1 start (lines text.now)) }
+    requires empty { slots.old ≡ stored_of no_job }
+    ensures { answer_with result slots.new ≡ answer_of (read_from 1 start (lines text.now)) }
 {
     let mut above = nothing_above();
     let mut cursor = Cursor::start();
@@ -86,7 +86,7 @@ fn read_lines(text: &[u8], slots: &mut StoredJob) -> Outcome
 
 // Reads a job: the length first, then line by line.
 pub fn read(text: &[u8]) -> Answer
-    ensures answer { result ≡ answer_of (readJob text.now) }
+    ensures answer { result ≡ answer_of (read_job text.now) }
     ensures right { RightAnswer text.now result }
 {
     if 64000 < text.len() {

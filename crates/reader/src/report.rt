@@ -1,13 +1,13 @@
 // The line that a reading prints.
 ghost use Rattle.std.specs.Prelude.{◌≤◌, length};
 ghost use Rattle.text.specs.Written.{Written};
-ghost use Rattle.jobfile.specs.Read.{readJob};
-ghost use Rattle.reader.specs.Reports.{refusedText, reportText};
+ghost use Rattle.jobfile.specs.Read.{read_job};
+ghost use Rattle.reader.specs.Reports.{refused_text, report_text};
 
 // Writes the line that a refusal prints.
 pub fn put_refusal(out: &mut [u8], number: usize, line: usize) -> usize
-    requires { length (refusedText number line) ≤ length out.old }
-    ensures { Written (refusedText number line) out.old out.new result }
+    requires { length (refused_text number line) ≤ length out.old }
+    ensures { Written (refused_text number line) out.old out.new result }
 {
     let mut at = text::put_bytes(out, b"(refused");
     at = text::put_spaced(out, at, number);
@@ -18,7 +18,7 @@ pub fn put_refusal(out: &mut [u8], number: usize, line: usize) -> usize
 // Reads a job, and writes its refusal or that it is accepted.
 pub fn report(text: &[u8], out: &mut [u8]) -> usize
     requires { 32 ≤ length out.old }
-    ensures { Written (reportText (readJob text.now)) out.old out.new result }
+    ensures { Written (report_text (read_job text.now)) out.old out.new result }
 {
     let answer = crate::read(text);
     let outcome = answer.outcome;

@@ -7,39 +7,39 @@ use lib.Dec.{leb}
 use lib.ListN.{length, take, drop}
 use lib.Seq.{take-append_seam}
 use borrow.Author.Tests.{le-leb}
-use Rattle.lists.proofs.Cases.{by-test}
+use Rattle.lists.proofs.Cases.{by_test}
 use Rattle.board.specs.Job.{Job}
-use Rattle.jobfile.specs.Read.{Read, accepted, refused, readJob}
-use Rattle.jobfile.proofs.Accepts.{read-accepted}
-use Rattle.routing.specs.Route.{routeText}
-use Rattle.routing.proofs.RouteUnbeaten.{route-length}
+use Rattle.jobfile.specs.Read.{Read, accepted, refused, read_job}
+use Rattle.jobfile.proofs.Accepts.{read_accepted}
+use Rattle.routing.specs.Route.{route_text}
+use Rattle.routing.proofs.RouteUnbeaten.{route_length}
 use Rattle.answers.specs.declared.TextAnswer.TheVariants.{TooSmall, Written}
-use Rattle.answers.specs.Answers.{answerFor, bufferFor, textAnswer, bufferAfter}
+use Rattle.answers.specs.Answers.{answer_for, buffer_for, text_answer, buffer_after}
 use Rattle.checker.specs.declared.CheckAnswer.TheVariants.{Passes}
-use Rattle.checker.specs.Answers.{verdictAnswer, checkAnswer}
-use Rattle.routed.proofs.RouteJudged.{route-judged}
+use Rattle.checker.specs.Answers.{verdict_answer, check_answer}
+use Rattle.routed.proofs.RouteJudged.{route_judged}
 
 module _ (text : List ℕ) where
   -- the text that route writes for an accepted job file
-  pub check-passes-text : (job : Job) → readJob text ≡ accepted job → checkAnswer (readJob text) (routeText job) ≡ Passes
-  unfolding checkAnswer verdictAnswer
-  check-passes-text job e =
-      let a = read-accepted text job e in
-      rw (e, le-leb (length (routeText job)) 64000 (route-length job a), route-judged job a)
+  pub check_passes_text : (job : Job) → read_job text ≡ accepted job → check_answer (read_job text) (route_text job) ≡ Passes
+  unfolding check_answer verdict_answer
+  check_passes_text job e =
+      let a = read_accepted text job e in
+      rw (e, le-leb (length (route_text job)) 64000 (route_length job a), route_judged job a)
 
   module _ (before : List ℕ) (n : ℕ) where
-    written-passes : (y : Read) → readJob text ≡ y → textAnswer routeText y (length before) ≡ Written n → checkAnswer y (take n (bufferAfter routeText y before)) ≡ Passes
-    unfolding textAnswer bufferAfter answerFor bufferFor
-    written-passes (refused o) e r = cc
-    written-passes (accepted job) e r =
-        let written = routeText job in
-        by-test (leb (length written) (length before))
+    written_passes : (y : Read) → read_job text ≡ y → text_answer route_text y (length before) ≡ Written n → check_answer y (take n (buffer_after route_text y before)) ≡ Passes
+    unfolding text_answer buffer_after answer_for buffer_for
+    written_passes (refused o) e r = cc
+    written_passes (accepted job) e r =
+        let written = route_text job in
+        by_test (leb (length written) (length before))
         (λ t.
         let q : Written (length written) ≡ Written n = rw t at r in
         let i : length written ≡ n = cc in
-        rw (t, ← i, take-append_seam written (drop (length written) before)) (rw e at (check-passes-text job e)))
+        rw (t, ← i, take-append_seam written (drop (length written) before)) (rw e at (check_passes_text job e)))
         (λ t. let q : TooSmall (length written) ≡ Written n = rw t at r in cc)
 
     -- where route answers with a length, the check passes that many bytes of the buffer afterwards
-    pub check-passes-route : textAnswer routeText (readJob text) (length before) ≡ Written n → checkAnswer (readJob text) (take n (bufferAfter routeText (readJob text) before)) ≡ Passes
-    check-passes-route r = written-passes (readJob text) refl r
+    pub check_passes_route : text_answer route_text (read_job text) (length before) ≡ Written n → check_answer (read_job text) (take n (buffer_after route_text (read_job text) before)) ≡ Passes
+    check_passes_route r = written_passes (read_job text) refl r

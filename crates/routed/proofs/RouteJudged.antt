@@ -4,16 +4,16 @@ use Prim.Native.Nat.{ℕ}
 use mathlib.Core.Path.{◌≡◌}
 use Rattle.board.specs.Job.{Job}
 use Rattle.board.specs.Accepted.{AcceptedJob}
-use Rattle.routing.specs.Route.{routeText}
-use Rattle.routing.proofs.RouteSound.{route-sound}
+use Rattle.routing.specs.Route.{route_text}
+use Rattle.routing.proofs.RouteSound.{route_sound}
 use Rattle.drc.specs.Breach.{Breach}
-use Rattle.drc.specs.Judge.{sound-text, judge}
-use Rattle.drc.proofs.FirstBroken.{judge-no-breach}
-use Rattle.drc.proofs.JudgeSound.{sound-judge}
+use Rattle.drc.specs.Judge.{sound_text, judge}
+use Rattle.drc.proofs.FirstBroken.{judge_no_breach}
+use Rattle.drc.proofs.JudgeSound.{sound_judge}
 
 module _ (job : Job) (a : AcceptedJob job) where
-  pub route-judged : judge job (routeText job) ≡ sound-text
-  route-judged = sound-judge job a (routeText job) (route-sound job a)
+  pub route_judged : judge job (route_text job) ≡ sound_text
+  route_judged = sound_judge job a (route_text job) (route_sound job a)
 
-  pub route-unbroken : (l : ℕ) → Breach job (routeText job) l → ⊥
-  route-unbroken l b = judge-no-breach job a (routeText job) l route-judged b
+  pub route_unbroken : (l : ℕ) → Breach job (route_text job) l → ⊥
+  route_unbroken l b = judge_no_breach job a (route_text job) l route_judged b

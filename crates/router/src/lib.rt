@@ -2,12 +2,12 @@
 #![tactic(auto)]
 
 ghost use Rattle.std.specs.Prelude.{◌≡◌, length};
-ghost use Rattle.jobfile.specs.Read.{readJob};
+ghost use Rattle.jobfile.specs.Read.{read_job};
 ghost use Rattle.planning.specs.Plan.{plan_of};
 ghost use Rattle.sound.specs.Sound.{Sound};
 ghost use Rattle.routing.specs.Promises.{ShortestText, UnbeatenText};
-ghost use Rattle.routing.specs.Route.{routeText};
-ghost use Rattle.answers.specs.Answers.{answerValues, documentValues, textAnswer, RightFor, bufferAfter, OfWritten};
+ghost use Rattle.routing.specs.Route.{route_text};
+ghost use Rattle.answers.specs.Answers.{answer_values, document_values, text_answer, RightFor, buffer_after, OfWritten};
 ghost use Rattle.router.specs.LayoutLength.{LayoutLength};
 
 use answers::TextAnswer;
@@ -15,13 +15,13 @@ use answers::TextAnswer;
 // Routes a job into a buffer. The layout is drawn into a buffer of its own, which every layout fits, so that its length is known before a
 // byte of the lent one is written; then its text is copied there.
 pub fn route(job: &[u8], out: &mut [u8]) -> TextAnswer
-    ensures answer { result ≡ textAnswer routeText (readJob job.now) (length out.old) }
-    ensures values { answerValues result ≡ documentValues routeText (readJob job.now) (length out.old) }
+    ensures answer { result ≡ text_answer route_text (read_job job.now) (length out.old) }
+    ensures values { answer_values result ≡ document_values route_text (read_job job.now) (length out.old) }
     ensures right { RightFor LayoutLength job.now (length out.old) result }
-    ensures buffer { out.new ≡ bufferAfter routeText (readJob job.now) out.old }
-    ensures shortest { OfWritten (λ j text. ShortestText j (plan_of j) text) (readJob job.now) result out.new }
-    ensures sound { OfWritten (λ j text. Sound j text) (readJob job.now) result out.new }
-    ensures unbeaten { OfWritten (λ j text. UnbeatenText j text) (readJob job.now) result out.new }
+    ensures buffer { out.new ≡ buffer_after route_text (read_job job.now) out.old }
+    ensures shortest { OfWritten (λ j text. ShortestText j (plan_of j) text) (read_job job.now) result out.new }
+    ensures sound { OfWritten (λ j text. Sound j text) (read_job job.now) result out.new }
+    ensures unbeaten { OfWritten (λ j text. UnbeatenText j text) (read_job job.now) result out.new }
 {
     let answer = reader::read(job);
     let outcome = answer.outcome;

@@ -8,23 +8,23 @@ use Rattle.board.specs.declared.Net.{Net}
 use Rattle.board.specs.Job.{Job}
 use Rattle.board.specs.TriedBoards.{Tried}
 use Rattle.jobfile.specs.declared.Outcome.{Outcome}
-use Rattle.jobfile.specs.Read.{accepted, refused, readJob}
+use Rattle.jobfile.specs.Read.{accepted, refused, read_job}
 use Rattle.jobfile.specs.Answers.{number_of, line_of}
-use Rattle.routing.specs.Route.{routeText}
+use Rattle.routing.specs.Route.{route_text}
 use Rattle.starred.specs.Boards.{LaidOut, OneNet, RefusedWith}
 
-module _ (text : List ℕ) (job : Job) (e : readJob text ≡ accepted job) where
+module _ (text : List ℕ) (job : Job) (e : read_job text ≡ accepted job) where
   -- route writes the stated bytes for the job that is read
-  pub laid_out : (written : List ℕ) → LaidOut text written → routeText job ≡ written
+  pub laid_out : (written : List ℕ) → LaidOut text written → route_text job ≡ written
   laid_out written l =
       let q : accepted l.job ≡ accepted job = sym l.read ∙ e in
       let i : l.job ≡ job = cc in
-      ap routeText (sym i) ∙ l.written_is
+      ap route_text (sym i) ∙ l.written_is
 
   -- every net of the job that is read is as stated
-  pub each-net : (shortestLength stretch needed tops first last : ℕ) → OneNet text shortestLength stretch needed tops first last →
-      (n : Net) → Memᴰ n job.nets → Tried job.board n shortestLength stretch needed first last
-  each-net shortestLength stretch needed tops first last o n h =
+  pub each_net : (shortest_length stretch needed tops first last : ℕ) → OneNet text shortest_length stretch needed tops first last →
+      (n : Net) → Memᴰ n job.nets → Tried job.board n shortest_length stretch needed first last
+  each_net shortest_length stretch needed tops first last o n h =
       let q : accepted o.job ≡ accepted job = sym o.read ∙ e in
       let i : o.job ≡ job = cc in
       let k : Memᴰ n (o.net ∷ []) = subst (λ (ns : List Net). Memᴰ n ns) (ap (λ (j : Job). j.nets) (sym i) ∙ o.only) h in
@@ -34,22 +34,22 @@ module _ (text : List ℕ) (job : Job) (e : readJob text ≡ accepted job) where
       (mathlib.Core.List.Memᴰ.cases_cons k)
 
   -- a text that is accepted is not stated to be refused
-  pub not-refused : (number line : ℕ) → RefusedWith text number line → ⊥
-  not-refused number line r =
+  pub not_refused : (number line : ℕ) → RefusedWith text number line → ⊥
+  not_refused number line r =
       let q : refused r.outcome ≡ accepted job = sym r.read ∙ e in
       let z : true ≡ false = cc in
       true≢false z
 
 -- a text that is refused is refused with the stated number and line
-pub refused_as : (text : List ℕ) (o : Outcome) → readJob text ≡ refused o → (number line : ℕ) → RefusedWith text number line →
+pub refused_as : (text : List ℕ) (o : Outcome) → read_job text ≡ refused o → (number line : ℕ) → RefusedWith text number line →
     (number_of o ≡ number) × (line_of o ≡ line)
 refused_as text o e number line r =
     let q : refused r.outcome ≡ refused o = sym r.read ∙ e in
     let i : r.outcome ≡ o = cc in
-    (ap number_of (sym i) ∙ r.number_is, ap line_of (sym i) ∙ r.line-is)
+    (ap number_of (sym i) ∙ r.number_is, ap line_of (sym i) ∙ r.line_is)
 
 -- the stated tops, from the first to the last, are as many as stated
-pub tops-counted : (text : List ℕ) (shortestLength stretch needed tops first last : ℕ) →
-    OneNet text shortestLength stretch needed tops first last →
+pub tops_counted : (text : List ℕ) (shortest_length stretch needed tops first last : ℕ) →
+    OneNet text shortest_length stretch needed tops first last →
     first + tops ≡ last + 1
-tops-counted text shortestLength stretch needed tops first last o = o.so-many
+tops_counted text shortest_length stretch needed tops first last o = o.so_many

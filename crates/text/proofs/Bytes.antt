@@ -10,8 +10,8 @@ use lib.Seq.{drop-cons}
 use lib.Dec.{eqb}
 use borrow.Author.Tests.{not-true, eq-eqb, ne_eqb, eqb-true}
 use Rattle.lists.specs.Lists.{all_of}
-use Rattle.lists.proofs.Cases.{by-test, and_split}
-use Rattle.text.specs.Bytes.{same, joined, pieces, nonEmpty, lines}
+use Rattle.lists.proofs.Cases.{by_test, and_split}
+use Rattle.text.specs.Bytes.{same, joined, pieces, non_empty, lines}
 
 -- `same` tells whether two texts are equal
 
@@ -29,19 +29,19 @@ same_true (a ∷ s) (b ∷ t) e =
     let h = and_split (eqb a b) (same s t) e in
     cc (eqb-true a b h.0, same_true s t h.1)
 
-pub same-eq : (s t : List ℕ) → s ≡ t → same s t ≡ true
-same-eq s t e = ap (same s) (sym e) ∙ same_refl s
+pub same_eq : (s t : List ℕ) → s ≡ t → same s t ≡ true
+same_eq s t e = ap (same s) (sym e) ∙ same_refl s
 
-pub same-ne : (s t : List ℕ) → (s ≡ t → ⊥) → same s t ≡ false
-same-ne s t h = by-test (same s t) (λ e. absurd (h (same_true s t e))) (λ e. e)
+pub same_ne : (s t : List ℕ) → (s ≡ t → ⊥) → same s t ≡ false
+same_ne s t h = by_test (same s t) (λ e. absurd (h (same_true s t e))) (λ e. e)
 
 pub same_false : (s t : List ℕ) → same s t ≡ false → s ≡ t → ⊥
-same_false s t e h = let z : ◌≡◌ {A = Bool} true false = sym (same-eq s t h) ∙ e in let o : ◌≡◌ {A = ℕ} 0 1 = cc in omega arith
+same_false s t e h = let z : ◌≡◌ {A = Bool} true false = sym (same_eq s t h) ∙ e in let o : ◌≡◌ {A = ℕ} 0 1 = cc in omega arith
 
 -- a comparison byte by byte: after j bytes that are the same, the rest decides
 
-pub same-sizes : (s t : List ℕ) → (length s ≡ length t → ⊥) → same s t ≡ false
-same-sizes s t h = same-ne s t (λ e. h (ap length e))
+pub same_sizes : (s t : List ℕ) → (length s ≡ length t → ⊥) → same s t ≡ false
+same_sizes s t h = same_ne s t (λ e. h (ap length e))
 
 pub same_step : (s t : List ℕ) (j : ℕ) → j < length s → j < length t → get_or s j 0 ≡ get_or t j 0 → same (drop j s) (drop j t) ≡ same (drop (j + 1) s) (drop (j + 1) t)
 unfolding same
@@ -64,25 +64,25 @@ piece_then f (b ∷ w) c rest a e =
     let h = and_split (not (f b)) (all_of (λ b. not (f b)) w) a in
     rw (not-true (f b) h.0, piece_then f w c rest h.1 e)
 
-pub piece-last : (f : ℕ → Bool) (w : List ℕ) → all_of (λ b. not (f b)) w ≡ true → 1 ≤ length w → pieces f w ≡ w ∷ []
+pub piece_last : (f : ℕ → Bool) (w : List ℕ) → all_of (λ b. not (f b)) w ≡ true → 1 ≤ length w → pieces f w ≡ w ∷ []
 unfolding pieces joined all_of
-piece-last f [] a h = absurd (omega arith)
-piece-last f (b ∷ []) a h = rw (not-true (f b) (and_split (not (f b)) true a).0)
-piece-last f (b ∷ d ∷ w) a h =
+piece_last f [] a h = absurd (omega arith)
+piece_last f (b ∷ []) a h = rw (not-true (f b) (and_split (not (f b)) true a).0)
+piece_last f (b ∷ d ∷ w) a h =
     let k = and_split (not (f b)) (all_of (λ b. not (f b)) (d ∷ w)) a in
-    rw (not-true (f b) k.0, piece-last f (d ∷ w) k.1 (omega arith))
+    rw (not-true (f b) k.0, piece_last f (d ∷ w) k.1 (omega arith))
 
-pub nonEmpty-some : (w : List ℕ) (ps : List (List ℕ)) → 1 ≤ length w → nonEmpty (w ∷ ps) ≡ w ∷ nonEmpty ps
-unfolding nonEmpty
-nonEmpty-some [] ps h = absurd (omega arith)
-nonEmpty-some (b ∷ w) ps h = refl
+pub non_empty_some : (w : List ℕ) (ps : List (List ℕ)) → 1 ≤ length w → non_empty (w ∷ ps) ≡ w ∷ non_empty ps
+unfolding non_empty
+non_empty_some [] ps h = absurd (omega arith)
+non_empty_some (b ∷ w) ps h = refl
 
 -- an empty line is a line
-pub empty-line : lines (97 ∷ 10 ∷ 10 ∷ 98 ∷ []) ≡ (97 ∷ []) ∷ [] ∷ (98 ∷ []) ∷ []
+pub empty_line : lines (97 ∷ 10 ∷ 10 ∷ 98 ∷ []) ≡ (97 ∷ []) ∷ [] ∷ (98 ∷ []) ∷ []
 unfolding pieces joined
-empty-line = refl
+empty_line = refl
 
 -- an empty last piece is none
-pub empty-last : lines (97 ∷ 10 ∷ []) ≡ (97 ∷ []) ∷ []
+pub empty_last : lines (97 ∷ 10 ∷ []) ≡ (97 ∷ []) ∷ []
 unfolding pieces joined
-empty-last = refl
+empty_last = refl

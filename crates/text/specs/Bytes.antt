@@ -26,31 +26,31 @@ pieces f [] = []
 pieces f (b ∷ bs) = let ps = pieces f bs in cond (f b) ([] ∷ ps) (joined b ps)
 
 -- the pieces that are not empty
-unfoldable pub nonEmpty : List (List ℕ) → List (List ℕ)
-nonEmpty [] = []
-nonEmpty ([] ∷ ps) = nonEmpty ps
-nonEmpty ((b ∷ bs) ∷ ps) = (b ∷ bs) ∷ nonEmpty ps
+unfoldable pub non_empty : List (List ℕ) → List (List ℕ)
+non_empty [] = []
+non_empty ([] ∷ ps) = non_empty ps
+non_empty ((b ∷ bs) ∷ ps) = (b ∷ bs) ∷ non_empty ps
 
 -- byte 10 ends a line
-abbrev pub isEnd : ℕ → Bool
-isEnd b = eqb b 10
+abbrev pub is_end : ℕ → Bool
+is_end b = eqb b 10
 
 -- byte 32 alone is a space
-abbrev pub isSpace : ℕ → Bool
-isSpace b = eqb b 32
+abbrev pub is_space : ℕ → Bool
+is_space b = eqb b 32
 
 -- any byte but a space
-abbrev pub notSpace : ℕ → Bool
-notSpace b = not (isSpace b)
+abbrev pub not_space : ℕ → Bool
+not_space b = not (is_space b)
 
 -- ( or )
-abbrev pub isBracket : ℕ → Bool
-isBracket b = eqb b 40 || eqb b 41
+abbrev pub is_bracket : ℕ → Bool
+is_bracket b = eqb b 40 || eqb b 41
 
 -- a space or a bracket ends a word
-abbrev pub endsWord : ℕ → Bool
-endsWord b = isSpace b || isBracket b
+abbrev pub ends_word : ℕ → Bool
+ends_word b = is_space b || is_bracket b
 
 -- the lines of a text, without their byte 10: a line ends at byte 10, and a last piece without it, if not empty, is a line
 abbrev pub lines : List ℕ → List (List ℕ)
-lines s = pieces isEnd s
+lines s = pieces is_end s

@@ -6,13 +6,13 @@ use Rattle.text.specs.declared.Number.{Number}
 use Rattle.text.specs.declared.Number.TheVariants.{Value, Bad}
 
 -- the digits of n, where k bounds how often n is divided; k = n is always enough
-unfoldable pub digitsIn : ℕ → ℕ → List ℕ
-digitsIn zero n = (48 + n) ∷ []
-digitsIn (suc k) n = let more = digitsIn k (n / 10) ++ ((48 + n % 10) ∷ []) in cond (ltb n 10) ((48 + n) ∷ []) more
+unfoldable pub digits_in : ℕ → ℕ → List ℕ
+digits_in zero n = (48 + n) ∷ []
+digits_in (suc k) n = let more = digits_in k (n / 10) ++ ((48 + n % 10) ∷ []) in cond (ltb n 10) ((48 + n) ∷ []) more
 
 -- the decimal digits of n, most significant first, no leading zero; 0 is the one digit 0
 unfoldable pub digits : ℕ → List ℕ
-digits n = digitsIn n n
+digits n = digits_in n n
 
 -- the last digit of n, or nothing if n is 0, so that no zero leads a number
 unfoldable pub lead : ℕ → List ℕ
@@ -20,17 +20,17 @@ lead zero = []
 lead (suc m) = (48 + suc m % 10) ∷ []
 
 -- a decimal digit, byte 48 to 57
-abbrev pub isDigit : ℕ → Bool
-isDigit b = leb 48 b && leb b 57
+abbrev pub is_digit : ℕ → Bool
+is_digit b = leb 48 b && leb b 57
 
 -- the number that digits stand for, read behind digits that stand for acc
-unfoldable pub valueFrom : ℕ → List ℕ → ℕ
-valueFrom acc [] = acc
-valueFrom acc (b ∷ bs) = valueFrom (acc * 10 + (b - 48)) bs
+unfoldable pub value_from : ℕ → List ℕ → ℕ
+value_from acc [] = acc
+value_from acc (b ∷ bs) = value_from (acc * 10 + (b - 48)) bs
 
 -- a word of one to `most` digits is a number, leading zeros or not
 unfoldable pub number : ℕ → List ℕ → Option ℕ
-number most w = cond (leb 1 (length w) && leb (length w) most && all_of isDigit w) (some (valueFrom 0 w)) none
+number most w = cond (leb 1 (length w) && leb (length w) most && all_of is_digit w) (some (value_from 0 w)) none
 
 -- a number or none as the code's answer
 unfoldable pub as_number : Option ℕ → Number

@@ -11,11 +11,11 @@ pub record Written (text before after : List ℕ) (r : ℕ) : Type 0 where
   pub bytes : after ≡ over text before
 
 -- s with the text over its bytes from the place `at` on
-abbrev pub overAt : ℕ → List ℕ → List ℕ → List ℕ
-overAt at text s = take at s ++ over text (drop at s)
+abbrev pub over_at : ℕ → List ℕ → List ℕ → List ℕ
+over_at at text s = take at s ++ over text (drop at s)
 
 -- a writer that is told the place `at` answers r, the place behind the text; its buffer afterwards has the text over its bytes from `at`
 -- on, the rest as before
 pub record WrittenAt (at : ℕ) (text before after : List ℕ) (r : ℕ) : Type 0 where
   pub next : r ≡ at + length text
-  pub bytes : after ≡ overAt at text before
+  pub bytes : after ≡ over_at at text before

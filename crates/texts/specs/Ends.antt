@@ -2,5 +2,5 @@
 use Rattle.std.specs.Prelude.{Bool, ℕ, eqb}
 
 -- byte 255 ends a text
-abbrev pub endsText : ℕ → Bool
-endsText b = eqb b 255
+abbrev pub ends_text : ℕ → Bool
+ends_text b = eqb b 255

@@ -3,11 +3,11 @@
 
 ghost use Rattle.std.specs.Prelude.{◌≡◌, ◌≤◌, max, length};
 ghost use Rattle.lines.specs.Places.{scan};
-ghost use Rattle.texts.specs.Ends.{endsText};
+ghost use Rattle.texts.specs.Ends.{ends_text};
 
 // The place of the byte that ends the text from a place on, or the end of the input; a place behind that is its own end.
 pub fn text_end(s: &[u8], from: usize) -> usize
-    ensures { (result ≡ scan endsText s.now from) × (from ≤ result) × (result ≤ max from (length s.now)) }
+    ensures { (result ≡ scan ends_text s.now from) × (from ≤ result) × (result ≤ max from (length s.now)) }
 {
     let mut i = from;
     while i < s.len() {

@@ -5,9 +5,9 @@ ghost use Rattle.std.specs.Prelude.{◌≡◌, ℕ, ◌≤◌, ◌<◌, length, 
 ghost use Rattle.board.specs.Stored.{job_of, AcceptedStored};
 ghost use Rattle.board.specs.Accepted.{BoardInRange, AcceptedNet};
 ghost use Rattle.blockmap.specs.Clear.{flag};
-ghost use Rattle.candidates.specs.Placed.{precedingOf, eligibleAt};
+ghost use Rattle.candidates.specs.Placed.{preceding_of, eligible_at};
 ghost use Rattle.candidates.specs.Gathered.{TopsOf};
-ghost use Rattle.toptable.specs.TopsTable.{withTops, withAllTops, NetsLent, TableOf, topsIn};
+ghost use Rattle.toptable.specs.TopsTable.{with_tops, with_all_tops, NetsLent, TableOf, tops_in};
 
 use board::{Board, Net, Row, StoredJob};
 use candidates::{NetTops, is_eligible};
@@ -30,7 +30,7 @@ pub fn tops_of(board: Board, net: Net) -> NetTops
 // Which nets are eligible, in a new table of numbers: number i is 1 if net i is, otherwise 0. `put_tops` says what its other parts are for.
 fn eligible_nets(nnets: usize, before: &[usize; 512], placed: &[usize; 512]) -> [usize; 2560]
     requires { (nnets ≤ 512) × ((k : ℕ) → k < nnets → get_or before.now k 0 ≤ 512) }
-    ensures { (k : ℕ) → k < nnets → get_or result k 0 ≡ flag (eligibleAt (get_or before.now k 0) placed.now k) }
+    ensures { (k : ℕ) → k < nnets → get_or result k 0 ≡ flag (eligible_at (get_or before.now k 0) placed.now k) }
 {
     let mut table = [0usize; 2560];
     for i in 0..nnets {
@@ -45,7 +45,7 @@ fn eligible_nets(nnets: usize, before: &[usize; 512], placed: &[usize; 512]) -> 
 // last top row stand 512, 1,024, 1,536 and 2,048 places behind number i.
 fn put_tops(board: Board, net: Net, i: usize, table: &mut [usize])
     requires { (BoardInRange board) × (AcceptedNet board net) × (i < 512) × (2560 ≤ length table.old) }
-    ensures { table.new ≡ withTops board net i table.old }
+    ensures { table.new ≡ with_tops board net i table.old }
 {
     if table[i] == 0 {
         return;
@@ -60,7 +60,7 @@ fn put_tops(board: Board, net: Net, i: usize, table: &mut [usize])
 // The nets of the job, lent as a list of records: each record goes to the placement rule, in its order.
 fn put_all_tops(nets: &[Net], board: Board, table: &mut [usize])
     requires { NetsLent board nets.now table.old }
-    ensures { table.new ≡ withAllTops board nets.now (length nets.now) table.old }
+    ensures { table.new ≡ with_all_tops board nets.now (length nets.now) table.old }
 {
     let mut i: usize = 0;
     while i < nets.len() {
@@ -72,7 +72,7 @@ fn put_all_tops(nets: &[Net], board: Board, table: &mut [usize])
 // The table of a track: which nets are eligible, and what the choice needs of each of those. The nets of the job are lent for it.
 pub fn tops_table(job: &StoredJob, before: &[usize; 512], placed: &[usize; 512]) -> [usize; 2560]
     requires accepted_stored { AcceptedStored job.now }
-    requires before_value { before.now ≡ precedingOf (job_of job.now) }
+    requires before_value { before.now ≡ preceding_of (job_of job.now) }
     ensures { TableOf job.now placed.now result }
 {
     let nets: &[Net] = &job.nets;
@@ -84,7 +84,7 @@ pub fn tops_table(job: &StoredJob, before: &[usize; 512], placed: &[usize; 512])
 // What the choice needs of net i, as it stands in the table.
 pub fn tops_in(table: &[usize; 2560], i: usize) -> NetTops
     requires { i < 512 }
-    ensures { result ≡ topsIn table.now i }
+    ensures { result ≡ tops_in table.now i }
 {
     let need = table[i + 512];
     let weight = table[i + 1024];

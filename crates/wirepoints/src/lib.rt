@@ -3,16 +3,16 @@
 
 ghost use Rattle.std.specs.Prelude.{◌≡◌, ◌+◌, ◌≤◌, length};
 ghost use Rattle.text.specs.Written.{WrittenAt};
-ghost use Rattle.layout.specs.Drawing.{samePoint};
-ghost use Rattle.wirepoints.specs.Points.{pointText, nextText, threeText, tailText, pinText, plainPath, stretchedPath, pointsText, Drawable};
+ghost use Rattle.layout.specs.Drawing.{same_point};
+ghost use Rattle.wirepoints.specs.Points.{point_text, next_text, three_text, tail_text, pin_text, plain_path, stretched_path, points_text, Drawable};
 
 use board::{Board, Net, Row, Shape, Track};
 use layout::Point;
 
 // Writes a point, " (column row)".
 fn put_point(out: &mut [u8], at: usize, p: Point) -> usize
-    requires { at + length (pointText p) ≤ length out.old }
-    ensures { WrittenAt at (pointText p) out.old out.new result }
+    requires { at + length (point_text p) ≤ length out.old }
+    ensures { WrittenAt at (point_text p) out.old out.new result }
 {
     let a = text::put_bytes_at(out, at, b" (");
     let b = text::put_number_at(out, a, p.column);
@@ -22,7 +22,7 @@ fn put_point(out: &mut [u8], at: usize, p: Point) -> usize
 
 // Whether two points are equal.
 fn same_point(p: Point, q: Point) -> bool
-    ensures { result ≡ samePoint p q }
+    ensures { result ≡ same_point p q }
 {
     if p.column != q.column {
         return false;
@@ -32,8 +32,8 @@ fn same_point(p: Point, q: Point) -> bool
 
 // Writes point q, unless it is equal to p, the one before.
 fn put_next(out: &mut [u8], at: usize, p: Point, q: Point) -> usize
-    requires { at + length (nextText p q) ≤ length out.old }
-    ensures { WrittenAt at (nextText p q) out.old out.new result }
+    requires { at + length (next_text p q) ≤ length out.old }
+    ensures { WrittenAt at (next_text p q) out.old out.new result }
 {
     if same_point(p, q) {
         return at;
@@ -43,8 +43,8 @@ fn put_next(out: &mut [u8], at: usize, p: Point, q: Point) -> usize
 
 // Writes three points behind p.
 fn put_three(out: &mut [u8], at: usize, p: Point, q: Point, r: Point, s: Point) -> usize
-    requires { at + length (threeText p q r s) ≤ length out.old }
-    ensures { WrittenAt at (threeText p q r s) out.old out.new result }
+    requires { at + length (three_text p q r s) ≤ length out.old }
+    ensures { WrittenAt at (three_text p q r s) out.old out.new result }
 {
     let a = put_next(out, at, p, q);
     let b = put_next(out, a, q, r);
@@ -53,8 +53,8 @@ fn put_three(out: &mut [u8], at: usize, p: Point, q: Point, r: Point, s: Point) 
 
 // Writes the points of a plain wire: via column c, right pins in column w, pins at rows l and r.
 fn put_plain(out: &mut [u8], at: usize, c: usize, w: usize, l: Row, r: Row) -> usize
-    requires { at + length (pinText l.0 (plainPath c w l.0 r.0)) ≤ length out.old }
-    ensures { WrittenAt at (pinText l.0 (plainPath c w l.0 r.0)) out.old out.new result }
+    requires { at + length (pin_text l.0 (plain_path c w l.0 r.0)) ≤ length out.old }
+    ensures { WrittenAt at (pin_text l.0 (plain_path c w l.0 r.0)) out.old out.new result }
 {
     let pin = Point {
         column: 0,
@@ -79,8 +79,8 @@ fn put_plain(out: &mut [u8], at: usize, c: usize, w: usize, l: Row, r: Row) -> u
 // Writes the points of a stretched wire behind p, the one where its stretched part begins: down or up to row v, back to the via column c,
 // to row r, and on to the right pins in column w.
 fn put_tail(out: &mut [u8], at: usize, c: usize, w: usize, p: Point, r: Row, v: Row) -> usize
-    requires { (c ≤ 1024) × (at + length (tailText c w p r.0 v.0) ≤ length out.old) }
-    ensures { WrittenAt at (tailText c w p r.0 v.0) out.old out.new result }
+    requires { (c ≤ 1024) × (at + length (tail_text c w p r.0 v.0) ≤ length out.old) }
+    ensures { WrittenAt at (tail_text c w p r.0 v.0) out.old out.new result }
 {
     let p1 = Point {
         column: c + 1,
@@ -113,8 +113,8 @@ fn put_stretched(
     u: Row,
     v: Row,
 ) -> usize
-    requires { (c ≤ 1024) × (at + length (pinText l.0 (stretchedPath c w l.0 r.0 u.0 v.0)) ≤ length out.old) }
-    ensures { WrittenAt at (pinText l.0 (stretchedPath c w l.0 r.0 u.0 v.0)) out.old out.new result }
+    requires { (c ≤ 1024) × (at + length (pin_text l.0 (stretched_path c w l.0 r.0 u.0 v.0)) ≤ length out.old) }
+    ensures { WrittenAt at (pin_text l.0 (stretched_path c w l.0 r.0 u.0 v.0)) out.old out.new result }
 {
     let pin = Point {
         column: 0,
@@ -148,8 +148,8 @@ pub fn put_points(
     top: Row,
 ) -> usize
     requires drawable { Drawable board track net shape top }
-    requires top_in_bounds { at + length (pointsText board track net shape top) ≤ length out.old }
-    ensures { WrittenAt at (pointsText board track net shape top) out.old out.new result }
+    requires top_in_bounds { at + length (points_text board track net shape top) ≤ length out.old }
+    ensures { WrittenAt at (points_text board track net shape top) out.old out.new result }
 {
     let w = board::width(board);
     let c = 2 * track.0 - 1;

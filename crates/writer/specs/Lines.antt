@@ -5,16 +5,16 @@ use Rattle.board.specs.declared.Net.{Net}
 use Rattle.board.specs.declared.Row.{Row}
 use Rattle.board.specs.declared.Shape.{Shape}
 use Rattle.board.specs.declared.Track.{Track}
-use Rattle.board.specs.Placement.{placementAt}
+use Rattle.board.specs.Placement.{placement_at}
 use Rattle.layout.specs.Tree.{Line, wire}
-use Rattle.layout.specs.LayoutText.{lineText}
-use Rattle.layout.specs.Drawing.{wireOf}
+use Rattle.layout.specs.LayoutText.{line_text}
+use Rattle.layout.specs.Drawing.{wire_of}
 pub use Rattle.wirepoints.specs.Points.{Drawable}
 
 -- a line and its byte 10
-abbrev pub endedLine : Line → List ℕ
-endedLine x = lineText x ++ (10 ∷ [])
+abbrev pub ended_line : Line → List ℕ
+ended_line x = line_text x ++ (10 ∷ [])
 
 -- the line of the wire that draws a placement on a track, and its byte 10
-abbrev pub wireLine : Board → Track → Net → Shape → Row → List ℕ
-wireLine board track net shape top = endedLine (wire (wireOf board track.0 (placementAt net shape top.0)))
+abbrev pub wire_line : Board → Track → Net → Shape → Row → List ℕ
+wire_line board track net shape top = ended_line (wire (wire_of board track.0 (placement_at net shape top.0)))

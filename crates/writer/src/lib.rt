@@ -3,7 +3,7 @@
 
 ghost use Rattle.std.specs.Prelude.{◌+◌, ◌≤◌, length};
 ghost use Rattle.text.specs.Written.{Written, WrittenAt};
-ghost use Rattle.writer.specs.Lines.{wireLine, Drawable, endedLine};
+ghost use Rattle.writer.specs.Lines.{wire_line, Drawable, ended_line};
 ghost use Rattle.layout.specs.Tree.{track as trackLine, loose as looseLine};
 
 use board::{Board, Net, Row, Shape, Track};
@@ -22,8 +22,8 @@ pub fn wire_line(
     top: Row,
 ) -> usize
     requires drawable { Drawable board track net shape top }
-    requires top_in_bounds { length (wireLine board track net shape top) ≤ length out.old }
-    ensures { Written (wireLine board track net shape top) out.old out.new result }
+    requires top_in_bounds { length (wire_line board track net shape top) ≤ length out.old }
+    ensures { Written (wire_line board track net shape top) out.old out.new result }
 {
     let number = net.number;
     let a = linewriter::put_head(out, 0, Vocabulary::Layout, 2, number);
@@ -33,8 +33,8 @@ pub fn wire_line(
 
 // Writes the line of a track: its number and its sum.
 pub fn track_line(out: &mut [u8], track: Track, sum: usize) -> usize
-    requires { length (endedLine (trackLine track.0 sum)) ≤ length out.old }
-    ensures { Written (endedLine (trackLine track.0 sum)) out.old out.new result }
+    requires { length (ended_line (trackLine track.0 sum)) ≤ length out.old }
+    ensures { Written (ended_line (trackLine track.0 sum)) out.old out.new result }
 {
     let t = track.0;
     let a = linewriter::put_head(out, 0, Vocabulary::Layout, 1, t);
@@ -44,8 +44,8 @@ pub fn track_line(out: &mut [u8], track: Track, sum: usize) -> usize
 
 // Writes the line of a loose net.
 pub fn loose_line(out: &mut [u8], number: usize) -> usize
-    requires { length (endedLine (looseLine number)) ≤ length out.old }
-    ensures { Written (endedLine (looseLine number)) out.old out.new result }
+    requires { length (ended_line (looseLine number)) ≤ length out.old }
+    ensures { Written (ended_line (looseLine number)) out.old out.new result }
 {
     let a = linewriter::put_head(out, 0, Vocabulary::Layout, 3, number);
     text::put_bytes_at(out, a, b")\n")
@@ -64,24 +64,24 @@ pub fn put_wire(
     top: Row,
 ) -> usize
     requires drawable { Drawable board track net shape top }
-    requires top_in_bounds { at + length (wireLine board track net shape top) ≤ length out.old }
-    ensures { WrittenAt at (wireLine board track net shape top) out.old out.new result }
+    requires top_in_bounds { at + length (wire_line board track net shape top) ≤ length out.old }
+    ensures { WrittenAt at (wire_line board track net shape top) out.old out.new result }
 {
     at + wire_line(&mut out[at..], board, track, net, shape, top)
 }
 
 // Writes the line of a track from a place on.
 pub fn put_track(out: &mut [u8], at: usize, track: Track, sum: usize) -> usize
-    requires { at + length (endedLine (trackLine track.0 sum)) ≤ length out.old }
-    ensures { WrittenAt at (endedLine (trackLine track.0 sum)) out.old out.new result }
+    requires { at + length (ended_line (trackLine track.0 sum)) ≤ length out.old }
+    ensures { WrittenAt at (ended_line (trackLine track.0 sum)) out.old out.new result }
 {
     at + track_line(&mut out[at..], track, sum)
 }
 
 // Writes the line of a loose net from a place on.
 pub fn put_loose(out: &mut [u8], at: usize, number: usize) -> usize
-    requires { at + length (endedLine (looseLine number)) ≤ length out.old }
-    ensures { WrittenAt at (endedLine (looseLine number)) out.old out.new result }
+    requires { at + length (ended_line (looseLine number)) ≤ length out.old }
+    ensures { WrittenAt at (ended_line (looseLine number)) out.old out.new result }
 {
     at + loose_line(&mut out[at..], number)
 }

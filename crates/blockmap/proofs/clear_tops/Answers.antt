@@ -8,22 +8,22 @@ use mathlib.Core.List.{List}
 use mathlib.Core.Path.{◌≡◌, refl, sym, ap, ◌∙◌}
 use native.Mathlib.Omega.{arith}
 use lib.ListN.{length-set}
-use Rattle.blockmap.specs.Clear.{allUnset, flagTops}
+use Rattle.blockmap.specs.Clear.{all_unset, flag_tops}
 use Rattle.blockmap.specs.Bits.{is_set}
-use Rattle.blockmap.proofs.ClearRows.{clear_none, clear-more, clear_of, blocked-in}
-use Rattle.blockmap.proofs.ClearTops.{flags-none, flags-more, flags-skip, flags-all, flags-over}
+use Rattle.blockmap.proofs.ClearRows.{clear_none, clear_more, clear_of, blocked_in}
+use Rattle.blockmap.proofs.ClearTops.{flags_none, flags_more, flags_skip, flags_all, flags_over}
 use Rattle.blockmap.proofs.clear_tops.Goals as goal
 use Rattle.blockmap.proofs.clear_tops.Goals.{then-known-top, else-known-top}
 
 -- the rows covered from the top on are clear
-abbrev Test : List ℕ → ℕ → ℕ → Bool
-Test words rows top = allUnset words top rows
+abbrev is_clear_top : List ℕ → ℕ → ℕ → Bool
+is_clear_top words rows top = all_unset words top rows
 
 pub tops-init : goal.tops-init
 tops-init c =
     let a = c.args in record {
       same_length = refl;
-      written = flags-none (Test a.map.words a.rows) a.first.0 c.flag_all.new.flags;
+      written = flags_none (is_clear_top a.map.words a.rows) a.first.0 c.flag_all.new.flags;
       not_past = omega arith;
       clear = clear_none a.map.words a.first.0;
       covered = omega arith;
@@ -35,9 +35,9 @@ pub tops-preserved-then-top-blocked : goal.tops-preserved-then-top-blocked
 tops-preserved-then-top-blocked c =
     let a = c.args in
     let t = c.tops in
-    let spoilt : allUnset a.map.words t.top a.rows ≡ false = blocked-in a.map.words t.top a.rows t.blocked (omega arith) t.invariant.covered (t.invariant.met (omega arith)) in record {
+    let spoilt : all_unset a.map.words t.top a.rows ≡ false = blocked_in a.map.words t.top a.rows t.blocked (omega arith) t.invariant.covered (t.invariant.met (omega arith)) in record {
       same_length = t.invariant.same_length;
-      written = flags-skip (Test a.map.words a.rows) a.first.0 (a.last.0 + 1 - a.first.0) a.flags.now c.flag_all.new.flags t.flags t.top (omega arith) (omega arith) (omega arith) (omega arith) c.flag_all.ensures t.invariant.written spoilt;
+      written = flags_skip (is_clear_top a.map.words a.rows) a.first.0 (a.last.0 + 1 - a.first.0) a.flags.now c.flag_all.new.flags t.flags t.top (omega arith) (omega arith) (omega arith) (omega arith) c.flag_all.ensures t.invariant.written spoilt;
       not_past = omega arith;
       clear = λ row h k. t.invariant.clear row (omega arith) k;
       covered = omega arith;
@@ -68,9 +68,9 @@ tops-preserved-then-is_blocked c =
     let t = c.tops in
     let l = c.loop-row in
     let met : is_set a.map.words l.row ≡ true = sym c.is_blocked.ensures ∙ c.if-is_blocked.true in
-    let spoilt : allUnset a.map.words t.top a.rows ≡ false = blocked-in a.map.words t.top a.rows l.row l.invariant.from_top (omega arith) met in record {
+    let spoilt : all_unset a.map.words t.top a.rows ≡ false = blocked_in a.map.words t.top a.rows l.row l.invariant.from_top (omega arith) met in record {
       same_length = t.invariant.same_length;
-      written = flags-skip (Test a.map.words a.rows) a.first.0 (a.last.0 + 1 - a.first.0) a.flags.now c.flag_all.new.flags t.flags t.top (omega arith) (omega arith) (omega arith) (omega arith) c.flag_all.ensures t.invariant.written spoilt;
+      written = flags_skip (is_clear_top a.map.words a.rows) a.first.0 (a.last.0 + 1 - a.first.0) a.flags.now c.flag_all.new.flags t.flags t.top (omega arith) (omega arith) (omega arith) (omega arith) c.flag_all.ensures t.invariant.written spoilt;
       not_past = omega arith;
       clear = λ row h k. t.invariant.clear row (omega arith) k;
       covered = omega arith;
@@ -84,7 +84,7 @@ loop-row-preserved c =
     let free : is_set words l.row ≡ false = sym c.is_blocked.ensures ∙ c.if-is_blocked.false in record {
       in_scan = omega arith;
       from_top = omega arith;
-      clear = clear-more words c.tops.top l.row l.invariant.clear free;
+      clear = clear_more words c.tops.top l.row l.invariant.clear free;
       below = omega arith;
     }
 
@@ -94,9 +94,9 @@ tops-preserved c =
     let a = c.args in
     let t = c.tops in
     let l = c.loop-row in
-    let clear : allUnset a.map.words t.top a.rows ≡ true = clear_of a.map.words t.top a.rows (λ row h k. l.invariant.clear row h (omega arith)) in record {
+    let clear : all_unset a.map.words t.top a.rows ≡ true = clear_of a.map.words t.top a.rows (λ row h k. l.invariant.clear row h (omega arith)) in record {
       same_length = length-set t.flags (t.top - 1) 1 ∙ t.invariant.same_length;
-      written = flags-more (Test a.map.words a.rows) a.first.0 c.flag_all.new.flags t.flags t.top true (omega arith) t.invariant.written clear;
+      written = flags_more (is_clear_top a.map.words a.rows) a.first.0 c.flag_all.new.flags t.flags t.top true (omega arith) t.invariant.written clear;
       not_past = omega arith;
       clear = λ row h k. l.invariant.clear row (omega arith) (omega arith);
       covered = omega arith;
@@ -107,6 +107,6 @@ pub returns : goal.returns
 returns c =
     let a = c.args in
     let t = c.tops in
-    flags-all (Test a.map.words a.rows) a.first.0 c.flag_all.new.flags t.flags a.last.0 (a.last.0 + 1) t.top t.invariant.written (omega arith) (omega arith) refl
-    ∙ ap (flagTops (Test a.map.words a.rows) a.first.0 (a.last.0 + 1 - a.first.0)) c.flag_all.ensures
-    ∙ flags-over (Test a.map.words a.rows) (λ t. false) a.first.0 (a.last.0 + 1 - a.first.0) a.flags.now (omega arith)
+    flags_all (is_clear_top a.map.words a.rows) a.first.0 c.flag_all.new.flags t.flags a.last.0 (a.last.0 + 1) t.top t.invariant.written (omega arith) (omega arith) refl
+    ∙ ap (flag_tops (is_clear_top a.map.words a.rows) a.first.0 (a.last.0 + 1 - a.first.0)) c.flag_all.ensures
+    ∙ flags_over (is_clear_top a.map.words a.rows) (λ t. false) a.first.0 (a.last.0 + 1 - a.first.0) a.flags.now (omega arith)

@@ -6,7 +6,7 @@ use mathlib.Core.Path.{◌≡◌}
 use mathlib.Core.Bool.{true}
 use lib.ListN.{length}
 use Rattle.blockmap.specs.Bits.{is_set}
-use Rattle.blockmap.specs.Clear.{allUnset, flagTops}
+use Rattle.blockmap.specs.Clear.{all_unset, flag_tops}
 use Rattle.blockmap.proofs.ClearRows.{ClearFrom}
 use Rattle.blockmap.proofs.clear_tops.Given as goal
 
@@ -21,7 +21,7 @@ invariant-loop-row l = record {
 abbrev pub invariant-tops : goal.invariant-tops
 invariant-tops l = record {
   same_length : length l.flags ≡ length l.initial.flags;
-  written : l.flags ≡ flagTops (λ t. allUnset l.map.words t l.rows) l.start (l.top - l.start) l.initial.flags;
+  written : l.flags ≡ flag_tops (λ t. all_unset l.map.words t l.rows) l.start (l.top - l.start) l.initial.flags;
   not_past : l.known ≤ l.top + l.rows;
   clear : ClearFrom l.map.words l.top l.known;
   covered : l.blocked < l.top + l.rows;

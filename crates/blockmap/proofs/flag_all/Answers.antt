@@ -4,14 +4,14 @@ use Prim.Native.Nat.{◌+◌}
 use mathlib.Core.Path.{refl}
 use native.Mathlib.Omega.{arith}
 use borrow.Author.Rules.{rules}
-use Rattle.blockmap.proofs.ClearTops.{flags-none, flags-more, flags-all}
+use Rattle.blockmap.proofs.ClearTops.{flags_none, flags_more, flags_all}
 use Rattle.blockmap.proofs.flag_all.Goals as goal
 
 pub loop-top-init : goal.loop-top-init
 loop-top-init c =
     let a = c.args in record {
       same_length = refl;
-      written = flags-none (λ t. a.clear) a.first.0 a.flags.now;
+      written = flags_none (λ t. a.clear) a.first.0 a.flags.now;
     }
 
 pub loop-top-preserved : goal.loop-top-preserved
@@ -19,11 +19,11 @@ loop-top-preserved c =
     let a = c.args in
     let l = c.loop-top in record {
       same_length = search rules;
-      written = rw c.byte_of-byte.ensures (flags-more (λ t. a.clear) a.first.0 a.flags.now l.flags l.top a.clear (omega arith) l.invariant.written refl);
+      written = rw c.byte_of-byte.ensures (flags_more (λ t. a.clear) a.first.0 a.flags.now l.flags l.top a.clear (omega arith) l.invariant.written refl);
     }
 
 pub returns : goal.returns
 returns c =
     let a = c.args in
     let l = c.loop-top in
-    flags-all (λ t. a.clear) a.first.0 a.flags.now l.flags a.last.0 (a.last.0 + 1) l.top l.invariant.written (omega arith) (omega arith) refl
+    flags_all (λ t. a.clear) a.first.0 a.flags.now l.flags a.last.0 (a.last.0 + 1) l.top l.invariant.written (omega arith) (omega arith) refl

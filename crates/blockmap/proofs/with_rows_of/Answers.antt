@@ -2,7 +2,7 @@
 use Prim.Native.Nat.{◌+◌}
 use mathlib.Core.Path.{◌≡◌}
 use native.Mathlib.Omega.{arith}
-use Rattle.blockmap.proofs.BlockRows.{added_none, added_more, added-all}
+use Rattle.blockmap.proofs.BlockRows.{added_none, added_more, added_all}
 use Rattle.blockmap.proofs.with_rows_of.Goals as goal
 
 pub loop-row-init : goal.loop-row-init
@@ -19,4 +19,4 @@ returns c =
     let a = c.args in
     let l = c.loop-row in
     let e : l.row ≡ a.block.last.0 + 1 = omega arith in
-    added-all a.map.words l.next.words a.block.first.0 a.block.last.0 (rw e at l.invariant)
+    added_all a.map.words l.next.words a.block.first.0 a.block.last.0 (rw e at l.invariant)

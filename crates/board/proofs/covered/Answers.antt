@@ -1,14 +1,14 @@
 -- `board::covered` meets its contract. Assumes nothing.
 use native.Mathlib.Omega.{arith}
 use Rattle.board.specs.Placement.{covered}
-use Rattle.board.proofs.ShortestShape.{span-add}
+use Rattle.board.proofs.ShortestShape.{span_add}
 use Rattle.board.proofs.covered.Goals as goal
 
 pub overflow_add-result : goal.overflow_add-result
-overflow_add-result c = let e = span-add c.args.net in omega arith
+overflow_add-result c = let e = span_add c.args.net in omega arith
 
 pub overflow_add-result-2 : goal.overflow_add-result-2
-overflow_add-result-2 c = let e = span-add c.args.net in omega arith
+overflow_add-result-2 c = let e = span_add c.args.net in omega arith
 
 pub returns : goal.returns
 unfolding covered

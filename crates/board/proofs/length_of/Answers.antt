@@ -2,7 +2,7 @@
 use native.Mathlib.Omega.{arith}
 use mathlib.Core.Path.{ap}
 use Rattle.board.specs.Length.{extra, length_of}
-use Rattle.board.proofs.ShortestShape.{plain-range}
+use Rattle.board.proofs.ShortestShape.{plain_range}
 use Rattle.board.proofs.length_of.Goals as goal
 
 pub overflow_mul-result : goal.overflow_mul-result
@@ -12,13 +12,13 @@ overflow_mul-result c =
 pub overflow_add-result : goal.overflow_add-result
 overflow_add-result c =
     let s = c in
-    let p = plain-range s.args.board s.args.net s.requires.board_in_range s.requires.net_in_range in
+    let p = plain_range s.args.board s.args.net s.requires.board_in_range s.requires.net_in_range in
     omega (arith, ap extra c.in-Stretched.is)
 
 pub overflow_add-result-in-Stretched : goal.overflow_add-result-in-Stretched
 overflow_add-result-in-Stretched c =
     let s = c in
-    let p = plain-range s.args.board s.args.net s.requires.board_in_range s.requires.net_in_range in
+    let p = plain_range s.args.board s.args.net s.requires.board_in_range s.requires.net_in_range in
     omega (arith, ap extra c.in-Stretched.is)
 
 pub returns-in-Plain : goal.returns-in-Plain

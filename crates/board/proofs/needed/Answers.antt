@@ -3,16 +3,16 @@ use native.Mathlib.Omega.{arith}
 use mathlib.Core.Path.{ap}
 use Rattle.board.specs.Length.{extra, needed}
 use Rattle.board.specs.Placement.{covered}
-use Rattle.board.proofs.ShortestShape.{fixed-rows, stretch-range}
+use Rattle.board.proofs.ShortestShape.{fixed_rows, stretch_range}
 use Rattle.board.proofs.needed.Goals as goal
 
 pub covered-requires : goal.covered-requires
 covered-requires c =
     let s = c in
-    let f = fixed-rows s.args.board s.args.net s.requires.net_in_range in
-    let e = stretch-range s.args.board s.args.net s.requires.board_in_range s.requires.net_in_range in
-    omega (arith, ap extra c.shortest-least.ensures)
+    let f = fixed_rows s.args.board s.args.net s.requires.net_in_range in
+    let e = stretch_range s.args.board s.args.net s.requires.board_in_range s.requires.net_in_range in
+    omega (arith, ap extra c.shortest_least.ensures)
 
 pub returns : goal.returns
 unfolding needed covered
-returns c = omega (arith, ap extra c.shortest-least.ensures)
+returns c = omega (arith, ap extra c.shortest_least.ensures)

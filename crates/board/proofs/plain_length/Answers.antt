@@ -1,16 +1,16 @@
 -- `board::plain_length` meets its contract. Assumes nothing.
 use native.Mathlib.Omega.{arith}
-use Rattle.board.specs.Length.{plainLength}
-use Rattle.board.proofs.ShortestShape.{plain-range}
+use Rattle.board.specs.Length.{plain_length}
+use Rattle.board.proofs.ShortestShape.{plain_range}
 use Rattle.board.proofs.plain_length.Goals as goal
 
 pub overflow_add-result : goal.overflow_add-result
-unfolding plainLength
+unfolding plain_length
 overflow_add-result c =
     let a = c.args in
-    let p = plain-range a.board a.net c.requires.board_in_range c.requires.net_in_range in
+    let p = plain_range a.board a.net c.requires.board_in_range c.requires.net_in_range in
     omega arith
 
 pub returns : goal.returns
-unfolding plainLength
+unfolding plain_length
 returns c = omega arith

@@ -1,11 +1,11 @@
 -- `drawnwires::same_bytes` meets its contract. The invariant: the first j bytes are the same, and the rest decides. Assumes nothing.
 use mathlib.Core.Path.{sym, ◌∙◌}
 use native.Mathlib.Omega.{arith}
-use Rattle.text.proofs.Bytes.{same-sizes, same_step, same_differs, same_end}
+use Rattle.text.proofs.Bytes.{same_sizes, same_step, same_differs, same_end}
 use Rattle.drawnwires.proofs.same_bytes.Goals as goal
 
 pub returns-then-s-t : goal.returns-then-s-t
-returns-then-s-t c = sym (same-sizes c.args.s.now c.args.t.now (λ e. omega arith))
+returns-then-s-t c = sym (same_sizes c.args.s.now c.args.t.now (λ e. omega arith))
 
 pub returns-then-s-j : goal.returns-then-s-j
 returns-then-s-j c =

@@ -5,8 +5,8 @@ use native.Mathlib.Omega.{arith}
 use lib.ListN.{length, take}
 use lib.Seq.{take_all}
 use borrow.Author.Rules.{rules}
-use Rattle.exports.specs.Exported.{addedUp}
-use Rattle.exports.proofs.Sums.{added_none, added_next, added-first}
+use Rattle.exports.specs.Exported.{added_up}
+use Rattle.exports.proofs.Sums.{added_none, added_next, added_first}
 use Rattle.exports.proofs.add_up.Goals as goal
 
 pub loop-i-init : goal.loop-i-init
@@ -17,7 +17,7 @@ overflow_add-total c =
     let xs = c.args.sums.now in
     let n : length xs ≡ 128 = search rules in
     let i = c.loop-i.i in
-    omega (arith, added_next xs i (omega arith), added-first xs (suc i))
+    omega (arith, added_next xs i (omega arith), added_first xs (suc i))
 
 pub loop-i-preserved : goal.loop-i-preserved
 loop-i-preserved c =
@@ -25,10 +25,10 @@ loop-i-preserved c =
     let n : length xs ≡ 128 = search rules in
     let i = c.loop-i.i in
     let e : i + 1 ≡ suc i = omega arith in
-    omega (arith, added_next xs i (omega arith), ap (λ k. addedUp (take k xs)) e)
+    omega (arith, added_next xs i (omega arith), ap (λ k. added_up (take k xs)) e)
 
 pub returns : goal.returns
 returns c =
     let xs = c.args.sums.now in
     let n : length xs ≡ 128 = search rules in
-    c.loop-i.invariant ∙ ap addedUp (take_all c.loop-i.i xs (omega arith))
+    c.loop-i.invariant ∙ ap added_up (take_all c.loop-i.i xs (omega arith))

@@ -5,7 +5,7 @@ use lib.ListN.{length}
 use borrow.Author.Rules.{rules}
 use borrow.Author.Tests.{eqb-true, eq-eqb}
 use Rattle.lists.proofs.Cases.{and_split, and_both}
-use Rattle.forms.proofs.Forms.{made-six, made_none, made-rows, made-tracks, made-net, made-block}
+use Rattle.forms.proofs.Forms.{made_six, made_none, made_rows, made_tracks, made_net, made_block}
 use Rattle.forms.proofs.make_form.Goals as goal
 
 pub returns-then-i-count : goal.returns-then-i-count
@@ -13,7 +13,7 @@ returns-then-i-count c =
     let a = c.args in
     let l : length a.n ≡ 6 = search rules in
     let h = and_split _ _ c.if-i-count.true in
-    made-six a.n l a.i a.count (eqb-true a.i 3 h.0) (eqb-true a.count 6 h.1)
+    made_six a.n l a.i a.count (eqb-true a.i 3 h.0) (eqb-true a.count 6 h.1)
 
 pub returns-then-count-i : goal.returns-then-count-i
 returns-then-count-i c =
@@ -24,19 +24,19 @@ returns-then-count-i c =
 pub returns-in-1 : goal.returns-in-1
 returns-in-1 c =
     let l : length c.args.n ≡ 6 = search rules in
-    made-rows c.args.n l _ _ c.in-1.is c.if-count-i.false
+    made_rows c.args.n l _ _ c.in-1.is c.if-count-i.false
 
 pub returns-in-2 : goal.returns-in-2
 returns-in-2 c =
     let l : length c.args.n ≡ 6 = search rules in
-    made-tracks c.args.n l _ _ c.in-2.is c.if-count-i.false
+    made_tracks c.args.n l _ _ c.in-2.is c.if-count-i.false
 
 pub returns-in-3 : goal.returns-in-3
 returns-in-3 c =
     let l : length c.args.n ≡ 6 = search rules in
-    made-net c.args.n l _ _ c.in-3.is c.if-count-i.false
+    made_net c.args.n l _ _ c.in-3.is c.if-count-i.false
 
 pub returns-in-4 : goal.returns-in-4
 returns-in-4 c =
     let l : length c.args.n ≡ 6 = search rules in
-    made-block c.args.n l _ _ c.in-4.is c.if-count-i.false
+    made_block c.args.n l _ _ c.in-4.is c.if-count-i.false

@@ -4,11 +4,11 @@ use mathlib.Core.Path.{sym, ◌∙◌}
 use native.Mathlib.Omega.{arith}
 use lib.ListN.{get_or}
 use borrow.Author.Rules.{rules}
-use Rattle.board.specs.Stored.{noNet, job_of}
-use Rattle.candidates.proofs.NetBefore.{net-accepted}
-use Rattle.candidates.proofs.TrackBlocks.{none-blocked}
-use Rattle.toptable.proofs.LentNets.{not-eligible, is-ready}
-use Rattle.gathering.proofs.Gathering.{tops-range, passed_none, passed-skip, passed-take, passed-count, passed-all}
+use Rattle.board.specs.Stored.{no_net, job_of}
+use Rattle.candidates.proofs.NetBefore.{net_accepted}
+use Rattle.candidates.proofs.TrackBlocks.{none_blocked}
+use Rattle.toptable.proofs.LentNets.{not_eligible, is_ready}
+use Rattle.gathering.proofs.Gathering.{tops_range, passed_none, passed_skip, passed_take, passed_count, passed_all}
 use Rattle.gathering.proofs.gather.Goals as goal
 
 pub loop-next-init : goal.loop-next-init
@@ -20,7 +20,7 @@ loop-next-init c =
     let found = c.no_candidates-found.result in
     let none = passed_none job a.placed.now words a.flags.now found (c.no_candidates-found.ensures job.board) in record {
       in_nets = omega arith;
-      no_more = passed-count job accepted (search rules) a.placed.now words a.flags.now found a.flags.now 0 (omega arith) none;
+      no_more = passed_count job accepted (search rules) a.placed.now words a.flags.now found a.flags.now 0 (omega arith) none;
       passed = none;
     }
 
@@ -33,15 +33,15 @@ loop-next-preserved-then-table-i-eq0 c =
     let l = c.loop-next in
     let table = c.tops_table-table in
     let h : l.next < job.nnets = omega arith in
-    let ready = not-eligible job a.placed.now table.result table.ensures l.next h c.if-table-i-eq0.true in record {
+    let ready = not_eligible job a.placed.now table.result table.ensures l.next h c.if-table-i-eq0.true in record {
       in_nets = omega arith;
       no_more = omega arith;
-      passed = passed-skip job accepted (search rules) a.placed.now c.block_map-map.result.words a.flags.now l.found l.flags l.next h l.invariant.passed ready;
+      passed = passed_skip job accepted (search rules) a.placed.now c.block_map-map.result.words a.flags.now l.found l.flags l.next h l.invariant.passed ready;
     }
 
 pub flag_part-requires-clause-row_value : goal.flag_part-requires-clause-row_value
 flag_part-requires-clause-row_value c e row =
-    c.block_map-map.ensures row ∙ none-blocked (job_of c.args.job.now) c.args.track.0 (sym c.has_blocks-any.ensures ∙ e) row
+    c.block_map-map.ensures row ∙ none_blocked (job_of c.args.job.now) c.args.track.0 (sym c.has_blocks-any.ensures ∙ e) row
 
 pub flag_part-requires-clause-le_first : goal.flag_part-requires-clause-le_first
 flag_part-requires-clause-le_first c =
@@ -51,9 +51,9 @@ flag_part-requires-clause-le_first c =
     let i = c.loop-next.next in
     let table = c.tops_table-table in
     let h : i < job.nnets = omega arith in
-    let n = net-accepted job accepted (search rules) i h in
-    let ready = is-ready job a.placed.now table.result table.ensures i h c.if-table-i-eq0.false in
-    tops-range job.board (get_or job.nets i noNet) c.tops_in-tops.result accepted.accepted.board-range n
+    let n = net_accepted job accepted (search rules) i h in
+    let ready = is_ready job a.placed.now table.result table.ensures i h c.if-table-i-eq0.false in
+    tops_range job.board (get_or job.nets i no_net) c.tops_in-tops.result accepted.accepted.board_range n
     (rw c.tops_in-tops.ensures (table.ensures.tops i h ready))
 
 -- an eligible net
@@ -65,10 +65,10 @@ loop-next-preserved c =
     let l = c.loop-next in
     let table = c.tops_table-table in
     let h : l.next < job.nnets = omega arith in
-    let ready = is-ready job a.placed.now table.result table.ensures l.next h c.if-table-i-eq0.false in record {
+    let ready = is_ready job a.placed.now table.result table.ensures l.next h c.if-table-i-eq0.false in record {
       in_nets = omega arith;
       no_more = omega arith;
-      passed = passed-take job r.accepted_stored (search rules) a.placed.now c.block_map-map.result.words a.flags.now l.found l.flags l.next h
+      passed = passed_take job r.accepted_stored (search rules) a.placed.now c.block_map-map.result.words a.flags.now l.found l.flags l.next h
           r.in_bounds l.invariant.passed ready c.tops_in-tops.result (rw c.tops_in-tops.ensures (table.ensures.tops l.next h ready)) c.flag_part.new.flags c.flag_part.ensures;
     }
 
@@ -78,5 +78,5 @@ returns c =
     let job = a.job.now in
     let r = c.requires in
     let l = c.loop-next in
-    passed-all job r.accepted_stored (search rules) a.placed.now c.block_map-map.result.words a.flags.now l.found l.flags l.next a.track.0
+    passed_all job r.accepted_stored (search rules) a.placed.now c.block_map-map.result.words a.flags.now l.found l.flags l.next a.track.0
     c.block_map-map.ensures r.in_bounds (omega arith) (omega arith) l.invariant.passed

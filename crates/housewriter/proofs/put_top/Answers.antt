@@ -4,28 +4,28 @@ use mathlib.Core.List.{List, [], ◌∷◌, ◌++◌}
 use native.Mathlib.Omega.{arith}
 use lib.ListN.{length}
 use Rattle.text.specs.Runs.{Going}
-use Rattle.text.proofs.Runs.{going_start, going_on, going-room, going_more, last-room, going-last}
+use Rattle.text.proofs.Runs.{going_start, going_on, going_room, going_more, last_room, going_last}
 use Rattle.board.specs.declared.Board.{Board}
 use Rattle.keywords.specs.Keywords.{word_of}
-use Rattle.linewriter.specs.LineText.{openingText}
+use Rattle.linewriter.specs.LineText.{opening_text}
 use Rattle.keywords.specs.declared.Vocabulary.TheVariants.{Job}
-use Rattle.house.specs.HouseText.{innerLine}
+use Rattle.house.specs.HouseText.{inner_line}
 use Rattle.housewriter.specs.Parts.{top_text}
-use Rattle.housewriter.proofs.Parts.{top-parts}
+use Rattle.housewriter.proofs.Parts.{top_parts}
 use Rattle.joblines.specs.Lines.{ended}
 use Rattle.housewriter.proofs.put_top.Goals as goal
 
 abbrev opening : List ℕ
-opening = openingText Job
+opening = opening_text Job
 
 abbrev rows : Board → List ℕ
-rows b = ended (innerLine (word_of Job 1) (b.rows ∷ []))
+rows b = ended (inner_line (word_of Job 1) (b.rows ∷ []))
 
 abbrev tracks : Board → List ℕ
-tracks b = ended (innerLine (word_of Job 2) (b.tracks ∷ []))
+tracks b = ended (inner_line (word_of Job 2) (b.tracks ∷ []))
 
 start : (b : Board) (s : List ℕ) → Going 0 (top_text b) (opening ++ (rows b ++ tracks b)) s s 0
-start b s = going_on (top-parts b) (going_start 0 (top_text b) s)
+start b s = going_on (top_parts b) (going_start 0 (top_text b) s)
 
 room : (b : Board) (s : List ℕ) → length (top_text b) ≤ length s → 0 + length (top_text b) ≤ length s
 room b s h = omega arith
@@ -34,7 +34,7 @@ pub put_opening-a-requires : goal.put_opening-a-requires
 put_opening-a-requires c =
     let b = c.args.board in
     let s = c.args.out.now in
-    going-room opening (rows b ++ tracks b) (start b s) (room b s c.requires)
+    going_room opening (rows b ++ tracks b) (start b s) (room b s c.requires)
 
 pub put_size-b-requires : goal.put_size-b-requires
 put_size-b-requires c =
@@ -42,7 +42,7 @@ put_size-b-requires c =
     let s = c.args.out.now in
     let h = room b s c.requires in
     let g = going_more opening (rows b ++ tracks b) (start b s) h c.put_opening-a.ensures in
-    record { i_bound = omega arith; number_in_bounds = going-room (rows b) (tracks b) g h }
+    record { i_bound = omega arith; number_in_bounds = going_room (rows b) (tracks b) g h }
 
 pub put_size-requires : goal.put_size-requires
 put_size-requires c =
@@ -50,7 +50,7 @@ put_size-requires c =
     let s = c.args.out.now in
     let h = room b s c.requires in
     let g = going_more opening (rows b ++ tracks b) (start b s) h c.put_opening-a.ensures in
-    record { i_bound = omega arith; number_in_bounds = last-room (tracks b) (going_more (rows b) (tracks b) g h c.put_size-b.ensures) h }
+    record { i_bound = omega arith; number_in_bounds = last_room (tracks b) (going_more (rows b) (tracks b) g h c.put_size-b.ensures) h }
 
 pub returns : goal.returns
 returns c =
@@ -58,4 +58,4 @@ returns c =
     let s = c.args.out.now in
     let h = room b s c.requires in
     let g = going_more opening (rows b ++ tracks b) (start b s) h c.put_opening-a.ensures in
-    going-last (tracks b) (going_more (rows b) (tracks b) g h c.put_size-b.ensures) h c.put_size.ensures
+    going_last (tracks b) (going_more (rows b) (tracks b) g h c.put_size-b.ensures) h c.put_size.ensures

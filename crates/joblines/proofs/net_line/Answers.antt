@@ -6,33 +6,33 @@ use lib.ListN.{length}
 use Rattle.board.specs.declared.Net.{Net}
 use Rattle.jobfile.specs.declared.Optional.{Optional}
 use Rattle.text.specs.Runs.{Going}
-use Rattle.text.proofs.Runs.{going_start, going_on, going-room, going_more, last-room, going-last}
+use Rattle.text.proofs.Runs.{going_start, going_on, going_room, going_more, last_room, going_last}
 use Rattle.text.proofs.Writing.{from_start}
-use Rattle.linewriter.specs.LineText.{headText}
+use Rattle.linewriter.specs.LineText.{head_text}
 use Rattle.keywords.specs.declared.Vocabulary.TheVariants.{Job}
-use Rattle.keywords.specs.Keywords.{netWord}
-use Rattle.house.specs.HouseText.{innerLine, netNumbers}
-use Rattle.joblines.specs.Lines.{ended, twoText, optionalText}
-use Rattle.joblines.proofs.Lines.{net-parts}
+use Rattle.keywords.specs.Keywords.{net_word}
+use Rattle.house.specs.HouseText.{inner_line, net_numbers}
+use Rattle.joblines.specs.Lines.{ended, two_text, optional_text}
+use Rattle.joblines.proofs.Lines.{net_parts}
 use Rattle.joblines.proofs.net_line.Goals as goal
 
 abbrev head : Net → List ℕ
-head n = headText Job 3 n.number
+head n = head_text Job 3 n.number
 
 abbrev pins : Net → List ℕ
-pins n = twoText n.left.0 n.right.0
+pins n = two_text n.left.0 n.right.0
 
 abbrev bounds : Net → List ℕ
-bounds n = twoText n.min n.max
+bounds n = two_text n.min n.max
 
 abbrev closed : List ℕ
 closed = 41 ∷ 10 ∷ []
 
 abbrev whole : Net → Optional → List ℕ
-whole n w = ended (innerLine netWord (netNumbers n w))
+whole n w = ended (inner_line net_word (net_numbers n w))
 
-start : (n : Net) (w : Optional) (s : List ℕ) → Going 0 (whole n w) (head n ++ (pins n ++ (bounds n ++ (optionalText w ++ closed)))) s s 0
-start n w s = going_on (net-parts n w) (going_start 0 (whole n w) s)
+start : (n : Net) (w : Optional) (s : List ℕ) → Going 0 (whole n w) (head n ++ (pins n ++ (bounds n ++ (optional_text w ++ closed)))) s s 0
+start n w s = going_on (net_parts n w) (going_start 0 (whole n w) s)
 
 room : (n : Net) (w : Optional) (s : List ℕ) → length (whole n w) ≤ length s → 0 + length (whole n w) ≤ length s
 room n w s h = omega arith
@@ -42,7 +42,7 @@ put_head-a-requires c =
     let n = c.args.net in
     let w = c.args.weight in
     let s = c.args.out.now in
-    (omega arith, going-room (head n) (pins n ++ (bounds n ++ (optionalText w ++ closed))) (start n w s) (room n w s c.requires))
+    (omega arith, going_room (head n) (pins n ++ (bounds n ++ (optional_text w ++ closed))) (start n w s) (room n w s c.requires))
 
 pub put_two-b-requires : goal.put_two-b-requires
 put_two-b-requires c =
@@ -50,8 +50,8 @@ put_two-b-requires c =
     let w = c.args.weight in
     let s = c.args.out.now in
     let h = room n w s c.requires in
-    let g0 = going_more (head n) (pins n ++ (bounds n ++ (optionalText w ++ closed))) (start n w s) h c.put_head-a.ensures in
-    going-room (pins n) (bounds n ++ (optionalText w ++ closed)) g0 h
+    let g0 = going_more (head n) (pins n ++ (bounds n ++ (optional_text w ++ closed))) (start n w s) h c.put_head-a.ensures in
+    going_room (pins n) (bounds n ++ (optional_text w ++ closed)) g0 h
 
 pub put_two-c-requires : goal.put_two-c-requires
 put_two-c-requires c =
@@ -59,9 +59,9 @@ put_two-c-requires c =
     let w = c.args.weight in
     let s = c.args.out.now in
     let h = room n w s c.requires in
-    let g0 = going_more (head n) (pins n ++ (bounds n ++ (optionalText w ++ closed))) (start n w s) h c.put_head-a.ensures in
-    let g1 = going_more (pins n) (bounds n ++ (optionalText w ++ closed)) g0 h c.put_two-b.ensures in
-    going-room (bounds n) (optionalText w ++ closed) g1 h
+    let g0 = going_more (head n) (pins n ++ (bounds n ++ (optional_text w ++ closed))) (start n w s) h c.put_head-a.ensures in
+    let g1 = going_more (pins n) (bounds n ++ (optional_text w ++ closed)) g0 h c.put_two-b.ensures in
+    going_room (bounds n) (optional_text w ++ closed) g1 h
 
 pub put_optional-d-requires : goal.put_optional-d-requires
 put_optional-d-requires c =
@@ -69,10 +69,10 @@ put_optional-d-requires c =
     let w = c.args.weight in
     let s = c.args.out.now in
     let h = room n w s c.requires in
-    let g0 = going_more (head n) (pins n ++ (bounds n ++ (optionalText w ++ closed))) (start n w s) h c.put_head-a.ensures in
-    let g1 = going_more (pins n) (bounds n ++ (optionalText w ++ closed)) g0 h c.put_two-b.ensures in
-    let g2 = going_more (bounds n) (optionalText w ++ closed) g1 h c.put_two-c.ensures in
-    going-room (optionalText w) closed g2 h
+    let g0 = going_more (head n) (pins n ++ (bounds n ++ (optional_text w ++ closed))) (start n w s) h c.put_head-a.ensures in
+    let g1 = going_more (pins n) (bounds n ++ (optional_text w ++ closed)) g0 h c.put_two-b.ensures in
+    let g2 = going_more (bounds n) (optional_text w ++ closed) g1 h c.put_two-c.ensures in
+    going_room (optional_text w) closed g2 h
 
 pub put_bytes_at-requires : goal.put_bytes_at-requires
 put_bytes_at-requires c =
@@ -80,10 +80,10 @@ put_bytes_at-requires c =
     let w = c.args.weight in
     let s = c.args.out.now in
     let h = room n w s c.requires in
-    let g0 = going_more (head n) (pins n ++ (bounds n ++ (optionalText w ++ closed))) (start n w s) h c.put_head-a.ensures in
-    let g1 = going_more (pins n) (bounds n ++ (optionalText w ++ closed)) g0 h c.put_two-b.ensures in
-    let g2 = going_more (bounds n) (optionalText w ++ closed) g1 h c.put_two-c.ensures in
-    last-room closed (going_more (optionalText w) closed g2 h c.put_optional-d.ensures) h
+    let g0 = going_more (head n) (pins n ++ (bounds n ++ (optional_text w ++ closed))) (start n w s) h c.put_head-a.ensures in
+    let g1 = going_more (pins n) (bounds n ++ (optional_text w ++ closed)) g0 h c.put_two-b.ensures in
+    let g2 = going_more (bounds n) (optional_text w ++ closed) g1 h c.put_two-c.ensures in
+    last_room closed (going_more (optional_text w) closed g2 h c.put_optional-d.ensures) h
 
 pub returns : goal.returns
 returns c =
@@ -91,7 +91,7 @@ returns c =
     let w = c.args.weight in
     let s = c.args.out.now in
     let h = room n w s c.requires in
-    let g0 = going_more (head n) (pins n ++ (bounds n ++ (optionalText w ++ closed))) (start n w s) h c.put_head-a.ensures in
-    let g1 = going_more (pins n) (bounds n ++ (optionalText w ++ closed)) g0 h c.put_two-b.ensures in
-    let g2 = going_more (bounds n) (optionalText w ++ closed) g1 h c.put_two-c.ensures in
-    from_start (going-last closed (going_more (optionalText w) closed g2 h c.put_optional-d.ensures) h c.put_bytes_at.ensures)
+    let g0 = going_more (head n) (pins n ++ (bounds n ++ (optional_text w ++ closed))) (start n w s) h c.put_head-a.ensures in
+    let g1 = going_more (pins n) (bounds n ++ (optional_text w ++ closed)) g0 h c.put_two-b.ensures in
+    let g2 = going_more (bounds n) (optional_text w ++ closed) g1 h c.put_two-c.ensures in
+    from_start (going_last closed (going_more (optional_text w) closed g2 h c.put_optional-d.ensures) h c.put_bytes_at.ensures)

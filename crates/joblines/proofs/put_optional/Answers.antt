@@ -2,16 +2,16 @@
 use native.Mathlib.Omega.{arith}
 use mathlib.Core.Path.{ap}
 use lib.ListN.{length}
-use Rattle.joblines.proofs.Lines.{none-put, some-text, some-put}
+use Rattle.joblines.proofs.Lines.{none_put, some_text, some_put}
 use Rattle.joblines.proofs.put_optional.Goals as goal
 
 pub put_spaced-requires : goal.put_spaced-requires
 put_spaced-requires c =
-    let e = ap length (some-text _ _ c.in-Written.is) in
+    let e = ap length (some_text _ _ c.in-Written.is) in
     omega (arith, e, c.requires)
 
 pub returns-in-LeftOut : goal.returns-in-LeftOut
-returns-in-LeftOut c = none-put _ _ _ c.in-LeftOut.is
+returns-in-LeftOut c = none_put _ _ _ c.in-LeftOut.is
 
 pub returns-in-Written : goal.returns-in-Written
-returns-in-Written c = some-put _ _ c.in-Written.is c.put_spaced.ensures
+returns-in-Written c = some_put _ _ c.in-Written.is c.put_spaced.ensures

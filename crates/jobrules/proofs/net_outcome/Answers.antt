@@ -6,70 +6,70 @@ use Rattle.board.specs.declared.Board.{Board}
 use Rattle.board.specs.declared.Net.{Net}
 use Rattle.board.specs.Length.{extra, length_of}
 use Rattle.board.specs.Accepted.{NetInRange}
-use Rattle.board.proofs.ShortestShape.{stretch-range}
+use Rattle.board.proofs.ShortestShape.{stretch_range}
 use Rattle.jobfile.specs.declared.Optional.{Optional}
-use Rattle.jobfile.specs.Read.{netInRange}
-use Rattle.jobfile.proofs.Tests.{net-range-is, differ-is}
-use Rattle.jobrules.proofs.Pins.{rows-in-range}
-use Rattle.jobrules.proofs.Outcomes.{test-yes, test-no, fails-3, fails-4, fails-5, fails-6, fails-7, fails-8, fails-9, passes-9}
+use Rattle.jobfile.specs.Read.{net_in_range}
+use Rattle.jobfile.proofs.Tests.{net_range_is, differ_is}
+use Rattle.jobrules.proofs.Pins.{rows_in_range}
+use Rattle.jobrules.proofs.Outcomes.{test_yes, test_no, fails_3, fails_4, fails_5, fails_6, fails_7, fails_8, fails_9, passes_9}
 use Rattle.jobrules.proofs.net_outcome.Goals as goal
 
-in-range : (size : Board) (n : Net) (w : Optional) → netInRange size n w ≡ true → NetInRange size n
-in-range size n w e = ((net-range-is size n w).0 e).0
+in_range : (size : Board) (n : Net) (w : Optional) → net_in_range size n w ≡ true → NetInRange size n
+in_range size n w e = ((net_range_is size n w).0 e).0
 
 pub returns-then-not-is_net_in_range : goal.returns-then-not-is_net_in_range
-returns-then-not-is_net_in_range c job s h = fails-3 _ _ _ _ _ _ _ job s h (sym c.is_net_in_range.ensures ∙ c.if-not-is_net_in_range.true)
+returns-then-not-is_net_in_range c job s h = fails_3 _ _ _ _ _ _ _ job s h (sym c.is_net_in_range.ensures ∙ c.if-not-is_net_in_range.true)
 
 pub returns-then-count-ge512 : goal.returns-then-count-ge512
-returns-then-count-ge512 c job s h = fails-4 _ _ _ _ _ _ _ job s h (sym c.is_net_in_range.ensures ∙ c.if-not-is_net_in_range.false) c.if-count-ge512.true
+returns-then-count-ge512 c job s h = fails_4 _ _ _ _ _ _ _ job s h (sym c.is_net_in_range.ensures ∙ c.if-not-is_net_in_range.false) c.if-count-ge512.true
 
 pub returns-then-not-numbered : goal.returns-then-not-numbered
 returns-then-not-numbered c job s h =
-    fails-5 _ _ _ _ _ _ _ job s h (sym c.is_net_in_range.ensures ∙ c.if-not-is_net_in_range.false) c.if-count-ge512.false c.if-not-numbered.true
+    fails_5 _ _ _ _ _ _ _ job s h (sym c.is_net_in_range.ensures ∙ c.if-not-is_net_in_range.false) c.if-count-ge512.false c.if-not-numbered.true
 
 pub are_pins_free-requires : goal.are_pins_free-requires
-are_pins_free-requires c = rows-in-range _ _ c.requires (in-range _ _ _ (sym c.is_net_in_range.ensures ∙ c.if-not-is_net_in_range.false))
+are_pins_free-requires c = rows_in_range _ _ c.requires (in_range _ _ _ (sym c.is_net_in_range.ensures ∙ c.if-not-is_net_in_range.false))
 
 pub returns-then-not-are_pins_free : goal.returns-then-not-are_pins_free
 returns-then-not-are_pins_free c job s h =
-    fails-6 _ _ _ _ _ _ _ job s h (sym c.is_net_in_range.ensures ∙ c.if-not-is_net_in_range.false) c.if-count-ge512.false c.if-not-numbered.false
+    fails_6 _ _ _ _ _ _ _ job s h (sym c.is_net_in_range.ensures ∙ c.if-not-is_net_in_range.false) c.if-count-ge512.false c.if-not-numbered.false
     (sym (c.are_pins_free.ensures job.nets h.pins) ∙ c.if-not-are_pins_free.true)
 
 pub returns-then-net : goal.returns-then-net
 returns-then-net c job s h =
-    fails-7 _ _ _ _ _ _ _ job s h (sym c.is_net_in_range.ensures ∙ c.if-not-is_net_in_range.false) c.if-count-ge512.false c.if-not-numbered.false
+    fails_7 _ _ _ _ _ _ _ job s h (sym c.is_net_in_range.ensures ∙ c.if-not-is_net_in_range.false) c.if-count-ge512.false c.if-not-numbered.false
     (sym (c.are_pins_free.ensures job.nets h.pins) ∙ c.if-not-are_pins_free.false) c.if-net.true
 
 pub shortest-shape-requires-clause-net_in_range : goal.shortest-shape-requires-clause-net_in_range
-shortest-shape-requires-clause-net_in_range c = in-range _ _ _ (sym c.is_net_in_range.ensures ∙ c.if-not-is_net_in_range.false)
+shortest-shape-requires-clause-net_in_range c = in_range _ _ _ (sym c.is_net_in_range.ensures ∙ c.if-not-is_net_in_range.false)
 
 pub length_of-requires-clause-net_in_range : goal.length_of-requires-clause-net_in_range
-length_of-requires-clause-net_in_range c = in-range _ _ _ (sym c.is_net_in_range.ensures ∙ c.if-not-is_net_in_range.false)
+length_of-requires-clause-net_in_range c = in_range _ _ _ (sym c.is_net_in_range.ensures ∙ c.if-not-is_net_in_range.false)
 
 pub length_of-requires-clause-shape_bound : goal.length_of-requires-clause-shape_bound
 length_of-requires-clause-shape_bound c =
-    let r = in-range _ _ _ (sym c.is_net_in_range.ensures ∙ c.if-not-is_net_in_range.false) in
-    omega (arith, ap extra c.shortest-shape.ensures, stretch-range _ _ c.requires r)
+    let r = in_range _ _ _ (sym c.is_net_in_range.ensures ∙ c.if-not-is_net_in_range.false) in
+    omega (arith, ap extra c.shortest-shape.ensures, stretch_range _ _ c.requires r)
 
 pub returns-then-net-length_of : goal.returns-then-net-length_of
 returns-then-net-length_of c job s h =
-    fails-8 _ _ _ _ _ _ _ job s h (sym c.is_net_in_range.ensures ∙ c.if-not-is_net_in_range.false) c.if-count-ge512.false c.if-not-numbered.false
-    (sym (c.are_pins_free.ensures job.nets h.pins) ∙ c.if-not-are_pins_free.false) ((differ-is _ _).1 c.if-net.false)
-    (test-no _ (c.length_of.ensures ∙ ap (length_of _ _) c.shortest-shape.ensures) c.if-net-length_of.true)
+    fails_8 _ _ _ _ _ _ _ job s h (sym c.is_net_in_range.ensures ∙ c.if-not-is_net_in_range.false) c.if-count-ge512.false c.if-not-numbered.false
+    (sym (c.are_pins_free.ensures job.nets h.pins) ∙ c.if-not-are_pins_free.false) ((differ_is _ _).1 c.if-net.false)
+    (test_no _ (c.length_of.ensures ∙ ap (length_of _ _) c.shortest-shape.ensures) c.if-net-length_of.true)
 
 pub needed-requires-clause-net_in_range : goal.needed-requires-clause-net_in_range
-needed-requires-clause-net_in_range c = in-range _ _ _ (sym c.is_net_in_range.ensures ∙ c.if-not-is_net_in_range.false)
+needed-requires-clause-net_in_range c = in_range _ _ _ (sym c.is_net_in_range.ensures ∙ c.if-not-is_net_in_range.false)
 
 pub returns-then-size-needed : goal.returns-then-size-needed
 returns-then-size-needed c job s h =
-    fails-9 _ _ _ _ _ _ _ job s h (sym c.is_net_in_range.ensures ∙ c.if-not-is_net_in_range.false) c.if-count-ge512.false c.if-not-numbered.false
-    (sym (c.are_pins_free.ensures job.nets h.pins) ∙ c.if-not-are_pins_free.false) ((differ-is _ _).1 c.if-net.false)
-    (test-yes _ (c.length_of.ensures ∙ ap (length_of _ _) c.shortest-shape.ensures) c.if-net-length_of.false)
-    (test-no _ c.needed.ensures c.if-size-needed.true)
+    fails_9 _ _ _ _ _ _ _ job s h (sym c.is_net_in_range.ensures ∙ c.if-not-is_net_in_range.false) c.if-count-ge512.false c.if-not-numbered.false
+    (sym (c.are_pins_free.ensures job.nets h.pins) ∙ c.if-not-are_pins_free.false) ((differ_is _ _).1 c.if-net.false)
+    (test_yes _ (c.length_of.ensures ∙ ap (length_of _ _) c.shortest-shape.ensures) c.if-net-length_of.false)
+    (test_no _ c.needed.ensures c.if-size-needed.true)
 
 pub returns : goal.returns
 returns c job s h =
-    passes-9 _ _ _ _ _ _ _ job s h (sym c.is_net_in_range.ensures ∙ c.if-not-is_net_in_range.false) c.if-count-ge512.false c.if-not-numbered.false
-    (sym (c.are_pins_free.ensures job.nets h.pins) ∙ c.if-not-are_pins_free.false) ((differ-is _ _).1 c.if-net.false)
-    (test-yes _ (c.length_of.ensures ∙ ap (length_of _ _) c.shortest-shape.ensures) c.if-net-length_of.false)
-    (test-yes _ c.needed.ensures c.if-size-needed.false)
+    passes_9 _ _ _ _ _ _ _ job s h (sym c.is_net_in_range.ensures ∙ c.if-not-is_net_in_range.false) c.if-count-ge512.false c.if-not-numbered.false
+    (sym (c.are_pins_free.ensures job.nets h.pins) ∙ c.if-not-are_pins_free.false) ((differ_is _ _).1 c.if-net.false)
+    (test_yes _ (c.length_of.ensures ∙ ap (length_of _ _) c.shortest-shape.ensures) c.if-net-length_of.false)
+    (test_yes _ c.needed.ensures c.if-size-needed.false)

@@ -1,15 +1,15 @@
 -- `jobrules::with_weight` meets its contract. Assumes nothing.
 use mathlib.Core.Path.{sym, ap, ◌∙◌}
-use Rattle.jobfile.specs.Read.{weightGiven, withWeight}
+use Rattle.jobfile.specs.Read.{weight_given, with_weight}
 use Rattle.jobrules.proofs.with_weight.Goals as goal
 
 pub returns-in-LeftOut : goal.returns-in-LeftOut
-unfolding weightGiven
+unfolding weight_given
 returns-in-LeftOut c =
     let a = c.args in
     (λ i. record { number = a.net.number; left = a.net.left; right = a.net.right; min = a.net.min; max = a.net.max; weight = c.needed.ensures i })
-    ∙ sym (ap (withWeight a.size a.net) c.in-LeftOut.is)
+    ∙ sym (ap (with_weight a.size a.net) c.in-LeftOut.is)
 
 pub returns-in-Written : goal.returns-in-Written
-unfolding weightGiven
-returns-in-Written c = let a = c.args in sym (ap (withWeight a.size a.net) c.in-Written.is)
+unfolding weight_given
+returns-in-Written c = let a = c.args in sym (ap (with_weight a.size a.net) c.in-Written.is)

@@ -1,7 +1,7 @@
 -- `jobsteps::entry_of` meets its contract: one case for each form. Assumes nothing.
 use mathlib.Core.Path.{sym, ap, ◌∙◌}
 use Rattle.jobsteps.specs.declared.Entry.TheVariants.{OfBlock}
-use Rattle.jobsteps.proofs.Lines.{entry-same}
+use Rattle.jobsteps.proofs.Lines.{entry_same}
 use Rattle.jobsteps.specs.LinesAbove.{entry_of}
 use Rattle.jobsteps.proofs.entry_of.Goals as goal
 
@@ -23,7 +23,7 @@ returns-in-Tracks c = sym (ap entry_of c.in-Tracks.is)
 
 pub returns-in-Net : goal.returns-in-Net
 unfolding entry_of
-returns-in-Net c = entry-same c.net_on_line.ensures ∙ sym (ap entry_of c.in-Net.is)
+returns-in-Net c = entry_same c.net_on_line.ensures ∙ sym (ap entry_of c.in-Net.is)
 
 pub returns-in-Block : goal.returns-in-Block
 unfolding entry_of

@@ -2,9 +2,9 @@
 use mathlib.Core.Path.{refl, sym, ap, ◌∙◌}
 use Rattle.layout.specs.Tree.{track}
 use Rattle.judging.specs.declared.LinesJudged.{LinesJudged}
-use Rattle.judging.proofs.Turns.{closes-off, track-place}
-use Rattle.judging.proofs.Ranges.{closed-range, settled-range, turn-range}
-use Rattle.judging.proofs.Steps.{track-off, track-taken}
+use Rattle.judging.proofs.Turns.{closes_off, track_place}
+use Rattle.judging.proofs.Ranges.{closed_range, settled_range, turn_range}
+use Rattle.judging.proofs.Steps.{track_off, track_taken}
 use Rattle.judging.proofs.take_track.Goals as goal
 
 pub returns-then-not-is_track_turn : goal.returns-then-not-is_track_turn
@@ -13,8 +13,8 @@ returns-then-not-is_track_turn c =
     let turn = sym c.is_track_turn.ensures ∙ c.if-not-is_track_turn.true in record {
       keeps_step = λ job st stands is k.
           rw c.closed.ensures
-          (closes-off job a.line st (track a.track.0 a.printed) a.m stands k (sym (track-place job a.tracks is a.m stands st a.track.0 a.printed k) ∙ turn));
-      judged_in_range_2 = rw c.closed.ensures (closed-range a.line a.line a.m);
+          (closes_off job a.line st (track a.track.0 a.printed) a.m stands k (sym (track_place job a.tracks is a.m stands st a.track.0 a.printed k) ∙ turn));
+      judged_in_range_2 = rw c.closed.ensures (closed_range a.line a.line a.m);
     }
 
 pub returns-then-above-eq-DECIDED : goal.returns-then-above-eq-DECIDED
@@ -24,9 +24,9 @@ returns-then-above-eq-DECIDED c =
     let turn = sym c.is_track_turn.ensures ∙ c.if-not-is_track_turn.false in record {
       keeps_step = λ job st stands is k.
           rw e
-          (track-off job a.line a.m stands st a.track.0 a.printed (sym (track-place job a.tracks is a.m stands st a.track.0 a.printed k) ∙ turn)
+          (track_off job a.line a.m stands st a.track.0 a.printed (sym (track_place job a.tracks is a.m stands st a.track.0 a.printed k) ∙ turn)
           (ap (λ (j : LinesJudged). j.stage) (sym e) ∙ c.if-above-eq-DECIDED.true) k);
-      judged_in_range_2 = rw e (settled-range a.line a.m c.requires.line_in_range.0 c.requires.judged_in_range);
+      judged_in_range_2 = rw e (settled_range a.line a.m c.requires.line_in_range.0 c.requires.judged_in_range);
     }
 
 pub returns : goal.returns
@@ -35,7 +35,7 @@ returns c =
     let e = c.settled-above.ensures in
     let turn = sym c.is_track_turn.ensures ∙ c.if-not-is_track_turn.false in record {
       keeps_step = λ job st stands is k.
-          track-taken job a.line a.m stands st a.track.0 a.printed (sym (track-place job a.tracks is a.m stands st a.track.0 a.printed k) ∙ turn)
+          track_taken job a.line a.m stands st a.track.0 a.printed (sym (track_place job a.tracks is a.m stands st a.track.0 a.printed k) ∙ turn)
           (λ d. c.if-above-eq-DECIDED.false (ap (λ (j : LinesJudged). j.stage) e ∙ d)) k;
-      judged_in_range_2 = turn-range a.tracks a.line a.track.0 _ a.m c.requires.tracks_bound turn refl refl;
+      judged_in_range_2 = turn_range a.tracks a.line a.track.0 _ a.m c.requires.tracks_bound turn refl refl;
     }

@@ -2,12 +2,12 @@
 use mathlib.Core.Path.{sym, ◌∙◌}
 use native.Mathlib.Omega.{arith}
 use borrow.Author.Rules.{rules}
-use Rattle.keywords.specs.Keywords.{findWord}
+use Rattle.keywords.specs.Keywords.{find_word}
 use Rattle.keywords.proofs.Words.{found, passed, none_found}
 use Rattle.keywords.proofs.find_word.Goals as goal
 
 pub loop-i-init : goal.loop-i-init
-unfolding findWord
+unfolding find_word
 loop-i-init c = search rules
 
 pub returns-then-is_word : goal.returns-then-is_word

@@ -2,11 +2,11 @@
 use mathlib.Core.Path.{sym, ◌∙◌}
 use native.Mathlib.Omega.{arith}
 use Rattle.keywords.specs.Keywords.{word_of}
-use Rattle.text.proofs.Bytes.{same-sizes, same_step, same_differs, same_end}
+use Rattle.text.proofs.Bytes.{same_sizes, same_step, same_differs, same_end}
 use Rattle.keywords.proofs.is_word.Goals as goal
 
 pub returns-then-s-n : goal.returns-then-s-n
-returns-then-s-n c = sym (same-sizes _ _ (λ e. omega arith))
+returns-then-s-n c = sym (same_sizes _ _ (λ e. omega arith))
 
 pub returns-then-s-j : goal.returns-then-s-j
 returns-then-s-j c =

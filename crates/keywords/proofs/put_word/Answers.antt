@@ -2,7 +2,7 @@
 use native.Mathlib.Omega.{arith}
 use lib.ListN.{length-set}
 use Rattle.keywords.specs.Keywords.{word_of}
-use Rattle.text.proofs.Writing.{copy_step, copy-end}
+use Rattle.text.proofs.Writing.{copy_step, copy_end}
 use Rattle.keywords.proofs.put_word.Goals as goal
 
 pub loop-j-preserved : goal.loop-j-preserved
@@ -18,5 +18,5 @@ returns c =
     let a = c.args in
     record {
       used = c.word_len-n.ensures;
-      bytes = copy-end (word_of a.v a.i) a.out.now c.loop-j.out c.loop-j.j c.loop-j.invariant.2 (omega arith);
+      bytes = copy_end (word_of a.v a.i) a.out.now c.loop-j.out c.loop-j.j c.loop-j.invariant.2 (omega arith);
     }

@@ -1,21 +1,21 @@
 -- `layoutforms::all_points` meets its contract. The invariant: the points from place p on decide. Assumes nothing.
 use mathlib.Core.Path.{sym, ◌∙◌}
 use native.Mathlib.Omega.{arith}
-use Rattle.layoutforms.proofs.PointsRead.{point-read, still-points, points-stop, points_none}
+use Rattle.layoutforms.proofs.PointsRead.{point_read, still_points, points_stop, points_none}
 use Rattle.layoutforms.proofs.all_points.Goals as goal
 
 pub loop-p-smaller : goal.loop-p-smaller
 loop-p-smaller c =
-    let r = point-read _ _ _ _ (sym c.in-Stands.ensures) in
+    let r = point_read _ _ _ _ (sym c.in-Stands.ensures) in
     omega arith
 
 pub loop-p-preserved : goal.loop-p-preserved
 loop-p-preserved c =
-    let r = point-read _ _ _ _ (sym c.in-Stands.ensures) in
-    (r.within, c.loop-p.invariant.1 ∙ still-points _ _ _ _ r)
+    let r = point_read _ _ _ _ (sym c.in-Stands.ensures) in
+    (r.within, c.loop-p.invariant.1 ∙ still_points _ _ _ _ r)
 
 pub returns-in-Absent : goal.returns-in-Absent
-returns-in-Absent c = c.shut_at.ensures ∙ sym (c.loop-p.invariant.1 ∙ points-stop _ _ (sym c.in-Absent.ensures))
+returns-in-Absent c = c.shut_at.ensures ∙ sym (c.loop-p.invariant.1 ∙ points_stop _ _ (sym c.in-Absent.ensures))
 
 pub returns : goal.returns
 returns c = sym (c.loop-p.invariant.1 ∙ points_none c.args.s.now c.loop-p.p (omega arith))

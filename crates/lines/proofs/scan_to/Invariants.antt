@@ -2,11 +2,11 @@
 use mathlib.Core.Path.{◌≡◌}
 use Prim.Native.Nat.{◌-◌, ◌≤◌}
 use lib.ListN.{length}
-use Rattle.lines.specs.Places.{stopsAt, scan}
+use Rattle.lines.specs.Places.{stops_at, scan}
 use Rattle.lines.proofs.scan_to.Given as goal
 
 abbrev pub invariant-loop-i : goal.invariant-loop-i
-invariant-loop-i l = (l.from ≤ l.i) × (l.i ≤ length l.s) × (scan (stopsAt l.stop) l.s l.from ≡ scan (stopsAt l.stop) l.s l.i)
+invariant-loop-i l = (l.from ≤ l.i) × (l.i ≤ length l.s) × (scan (stops_at l.stop) l.s l.from ≡ scan (stops_at l.stop) l.s l.i)
 
 abbrev pub decreases-loop-i : goal.decreases-loop-i
 decreases-loop-i l = length l.s - l.i

@@ -5,41 +5,41 @@ use native.Mathlib.Omega.{arith}
 use lib.ListN.{length-take}
 use Rattle.board.specs.Stored.{job_of}
 use Rattle.candidates.specs.Gathered.{Gathered}
-use Rattle.choice.proofs.GatheredBounds.{gathered-bounds}
-use Rattle.choice.proofs.FilledPlan.{filled-plan}
-use Rattle.planner.specs.Progressed.{onFirst, progressTo, OnTurn}
-use Rattle.planner.proofs.PlanIsBest.{best-plan}
-use Rattle.planner.proofs.NextTrack.{gathered-first, none-planned, all-planned}
+use Rattle.choice.proofs.GatheredBounds.{gathered_bounds}
+use Rattle.choice.proofs.FilledPlan.{filled_plan_lem}
+use Rattle.planner.specs.Progressed.{on_first, progress_to, OnTurn}
+use Rattle.planner.proofs.PlanIsBest.{best_plan}
+use Rattle.planner.proofs.NextTrack.{gathered_first, none_planned, all_planned}
 use Rattle.planner.proofs.plan_tracks.Goals.{After-gather-c}
 use Rattle.planner.proofs.plan_tracks.Goals as goal
 
 pub loop-t-init : goal.loop-t-init
-loop-t-init c = (omega arith, omega arith, c.no_progress-p.ensures ∙ none-planned (job_of c.args.job.now) c.requires.accepted_stored.accepted, c.requires.flags_room)
+loop-t-init c = (omega arith, omega arith, c.no_progress-p.ensures ∙ none_planned (job_of c.args.job.now) c.requires.accepted_stored.accepted, c.requires.flags_room)
 
 -- the track on turn, and its candidates with the nets of the tracks before it held
-on-turn : (c : After-gather-c) → OnTurn (job_of c.args.job.now) c.loop-t.t c.loop-t.p
-on-turn c = record { track-range = (omega arith, omega arith); so_far = c.loop-t.invariant.2 }
+on_turn : (c : After-gather-c) → OnTurn (job_of c.args.job.now) c.loop-t.t c.loop-t.p
+on_turn c = record { track_range = (omega arith, omega arith); so_far = c.loop-t.invariant.2 }
 
-held : (c : After-gather-c) → Gathered (job_of c.args.job.now) (onFirst (job_of c.args.job.now) (c.loop-t.t - 1)) c.loop-t.t c.gather-c.result c.gather-c.new.flags
-held c = gathered-first (job_of c.args.job.now) c.loop-t.t c.loop-t.p _ _ c.gather-c.result (on-turn c) c.gather-c.ensures
+held : (c : After-gather-c) → Gathered (job_of c.args.job.now) (on_first (job_of c.args.job.now) (c.loop-t.t - 1)) c.loop-t.t c.gather-c.result c.gather-c.new.flags
+held c = gathered_first (job_of c.args.job.now) c.loop-t.t c.loop-t.p _ _ c.gather-c.result (on_turn c) c.gather-c.ensures
 
 pub fill-plan-requires : goal.fill-plan-requires
 fill-plan-requires c =
-    gathered-bounds (job_of c.args.job.now) _ c.loop-t.t c.gather-c.result _ c.requires.accepted_stored.accepted (held (goal.at.fill-plan-requires c).After-gather-c)
+    gathered_bounds (job_of c.args.job.now) _ c.loop-t.t c.gather-c.result _ c.requires.accepted_stored.accepted (held (goal.at.fill-plan-requires c).After-gather-c)
     (omega (arith, length-take c.args.job.now.nnets c.args.job.now.nets))
 
 pub record_track-requires-clause-plan_value : goal.record_track-requires-clause-plan_value
 record_track-requires-clause-plan_value c =
     let g = (goal.at.record_track-requires-clause-plan_value c).After-gather-c in
-    c.fill-plan.ensures ∙ filled-plan (job_of c.args.job.now) _ c.loop-t.t c.gather-c.result _ c.requires.accepted_stored.accepted (held g)
+    c.fill-plan.ensures ∙ filled_plan_lem (job_of c.args.job.now) _ c.loop-t.t c.gather-c.result _ c.requires.accepted_stored.accepted (held g)
 
 pub returns-clause-answer : goal.returns-clause-answer
 returns-clause-answer c =
     let e : c.loop-t.t - 1 ≡ c.args.job.now.board.tracks = omega arith in
-    all-planned (job_of c.args.job.now) c.loop-t.p (c.loop-t.invariant.2 ∙ ap (progressTo (job_of c.args.job.now)) e)
+    all_planned (job_of c.args.job.now) c.loop-t.p (c.loop-t.invariant.2 ∙ ap (progress_to (job_of c.args.job.now)) e)
 
 pub returns-clause-best : goal.returns-clause-best
 returns-clause-best c =
     let e : c.loop-t.t - 1 ≡ c.args.job.now.board.tracks = omega arith in
-    let is = all-planned (job_of c.args.job.now) c.loop-t.p (c.loop-t.invariant.2 ∙ ap (progressTo (job_of c.args.job.now)) e) in
-    rw is (best-plan (job_of c.args.job.now) c.requires.accepted_stored.accepted)
+    let is = all_planned (job_of c.args.job.now) c.loop-t.p (c.loop-t.invariant.2 ∙ ap (progress_to (job_of c.args.job.now)) e) in
+    rw is (best_plan (job_of c.args.job.now) c.requires.accepted_stored.accepted)

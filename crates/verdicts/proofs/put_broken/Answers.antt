@@ -4,27 +4,27 @@ use native.Mathlib.Omega.{arith}
 use lib.ListN.{length-append}
 use Rattle.text.specs.Digits.{digits}
 use Rattle.text.proofs.Writing.{kept, chain}
-use Rattle.verdicts.proofs.Lines.{brokenHead, broken-parts, broken-length}
+use Rattle.verdicts.proofs.Lines.{broken_head, broken_parts, broken_length}
 use Rattle.verdicts.proofs.put_broken.Goals as goal
 
 pub put_bytes-at-requires : goal.put_bytes-at-requires
-put_bytes-at-requires c = omega (arith, broken-length c.args.line)
+put_bytes-at-requires c = omega (arith, broken_length c.args.line)
 
 pub put_spaced-at-requires : goal.put_spaced-at-requires
 put_spaced-at-requires c =
-    let l = broken-length c.args.line in
+    let l = broken_length c.args.line in
     let w = c.put_bytes-at.ensures in
     omega (arith, w.used, kept w (omega arith))
 
 pub put_bytes_at-requires : goal.put_bytes_at-requires
 put_bytes_at-requires c =
     let a = c.args in
-    let l = broken-length a.line in
+    let l = broken_length a.line in
     let y = chain c.put_bytes-at.ensures c.put_spaced-at.ensures in
-    let m = length-append brokenHead (32 ∷ digits a.line) in
+    let m = length-append broken_head (32 ∷ digits a.line) in
     omega (arith, y.used, kept y (omega arith))
 
 pub returns : goal.returns
 returns c =
     let y = chain c.put_bytes-at.ensures c.put_spaced-at.ensures in
-    rw (broken-parts c.args.line) (chain y c.put_bytes_at.ensures)
+    rw (broken_parts c.args.line) (chain y c.put_bytes_at.ensures)

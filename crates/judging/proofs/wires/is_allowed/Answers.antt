@@ -2,7 +2,7 @@
 use mathlib.Core.Path.{sym, ap, ◌∙◌}
 use native.Mathlib.Omega.{arith}
 use lib.Dec.{leb}
-use Rattle.judging.proofs.ValueTests.{too_short, long-enough}
+use Rattle.judging.proofs.ValueTests.{too_short, long_enough}
 use Rattle.judging.proofs.wires.is_allowed.Goals as goal
 
 pub returns-then-length-net : goal.returns-then-length-net
@@ -15,4 +15,4 @@ pub returns : goal.returns
 returns c =
     let a = c.args in
     let e = c.length_of-length.ensures in
-    ap (λ l. leb l a.net.max) e ∙ sym (long-enough a.board a.net a.shape (omega (arith, e)))
+    ap (λ l. leb l a.net.max) e ∙ sym (long_enough a.board a.net a.shape (omega (arith, e)))

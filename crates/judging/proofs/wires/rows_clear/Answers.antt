@@ -2,7 +2,7 @@
 use Prim.Native.Nat.{◌+◌}
 use mathlib.Core.Path.{◌≡◌, sym, ◌∙◌}
 use native.Mathlib.Omega.{arith}
-use Rattle.blockmap.proofs.ClearRows.{clear_none, clear-more, clear_of, blocked-in}
+use Rattle.blockmap.proofs.ClearRows.{clear_none, clear_more, clear_of, blocked_in}
 use Rattle.judging.proofs.wires.rows_clear.Goals as goal
 
 pub loop-row-init : goal.loop-row-init
@@ -12,13 +12,13 @@ pub returns-then-is_blocked : goal.returns-then-is_blocked
 returns-then-is_blocked c =
     let a = c.args in
     let l = c.loop-row in
-    sym (blocked-in a.words.now a.top.0 a.rows l.row (omega arith) (omega arith) (sym c.is_blocked.ensures ∙ c.if-is_blocked.true))
+    sym (blocked_in a.words.now a.top.0 a.rows l.row (omega arith) (omega arith) (sym c.is_blocked.ensures ∙ c.if-is_blocked.true))
 
 pub loop-row-preserved : goal.loop-row-preserved
 loop-row-preserved c =
     let a = c.args in
     let l = c.loop-row in
-    record { not_past = omega arith; clear = clear-more a.words.now a.top.0 l.row l.invariant.clear (sym c.is_blocked.ensures ∙ c.if-is_blocked.false) }
+    record { not_past = omega arith; clear = clear_more a.words.now a.top.0 l.row l.invariant.clear (sym c.is_blocked.ensures ∙ c.if-is_blocked.false) }
 
 pub returns : goal.returns
 returns c =

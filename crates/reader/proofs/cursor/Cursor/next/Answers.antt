@@ -2,7 +2,7 @@
 use mathlib.Core.Path.{sym, ap, ◌∙◌}
 use native.Mathlib.Omega.{arith}
 use Rattle.lines.proofs.Steps.{stepped}
-use Rattle.reader.specs.Cursors.{formOn, formStep}
+use Rattle.reader.specs.Cursors.{form_on, form_step}
 use Rattle.reader.proofs.cursor.Cursor.next.Goals as goal
 
 pub slice_bounds-read_form-count : goal.slice_bounds-read_form-count
@@ -21,9 +21,9 @@ slice_bounds-read_form-end c =
     omega arith
 
 pub returns-in-Line : goal.returns-in-Line
-unfolding formStep formOn
-returns-in-Line c = rw c.read_form-form.ensures (ap (formOn _) (sym c.in-Line.is ∙ c.next_line.ensures))
+unfolding form_step form_on
+returns-in-Line c = rw c.read_form-form.ensures (ap (form_on _) (sym c.in-Line.is ∙ c.next_line.ensures))
 
 pub returns-in-End : goal.returns-in-End
-unfolding formStep formOn
-returns-in-End c = ap (formOn _) (sym c.in-End.is ∙ c.next_line.ensures)
+unfolding form_step form_on
+returns-in-End c = ap (form_on _) (sym c.in-End.is ∙ c.next_line.ensures)

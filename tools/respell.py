@@ -9,7 +9,7 @@ file has a row for each name: old, a tab, new. A row of local_names.tsv is for o
   .rt    the same, in clauses and everywhere but in strings: no name of the code is in the table
   .edit  the texts of its lines 'old:' and 'new:', and its comment as above
   .md    what stands between backticks
-A name that Rattle makes (a goal, a loop) stays, since none is in the table. Functions, exported names, strings, inputs and outputs stay.
+A name that Rattle makes (a goal, a loop) stays: in a function's answers the first name behind 'c.', and no other is in the table. Functions, exported names, strings, inputs and outputs stay.
 """
 
 import os
@@ -27,6 +27,7 @@ ANTT = re.compile(STRING + r'|(?<![^\s(){}.;,@"«»])--[^\n]*')
 RUST = re.compile(STRING + r"|//[^\n]*")
 SPAN = re.compile(r"`[^`\n]+`")
 # words that stood in the spelling of today, and make room for a definition: turned in proofs alone
+MADE = re.compile(r'(?<![^\s(){};,@"«»])c\.' + WORD.pattern)
 ROOM = ("by_row", "covers_of", "step_lines")
 
 
@@ -47,6 +48,15 @@ def local_names():
 
 def words(text, names, how):
     return how.sub(lambda m: names.get(m[0], m[0]), text)
+
+
+def beside(text, made, turn):
+    """The text with everything turned but what 'made' finds."""
+    at, out = 0, []
+    for m in made.finditer(text):
+        out += [turn(text[at : m.start()]), m[0]]
+        at = m.end()
+    return "".join(out) + turn(text[at:])
 
 
 def prose(text, names):
@@ -96,9 +106,11 @@ def main(root):
             with open(path, encoding="utf-8") as it:
                 old = it.read()
             if kind == ".antt":
-                new = code(old, names if "/proofs/" in path else outside, ANTT, WORD)
-                here = local.get(os.path.relpath(path, root), {})
-                new = code(new, here, ANTT, FREE) if here else new
+                here = names if "/proofs/" in path else outside
+                turn = lambda t: code(t, here, ANTT, WORD)  # noqa: E731
+                new = beside(old, MADE, turn) if f in ("Answers.antt", "Invariants.antt") else turn(old)
+                own = local.get(os.path.relpath(path, root), {})
+                new = code(new, own, ANTT, FREE) if own else new
             elif kind == ".rt":
                 new = code(old, outside, RUST, BARE)
             elif kind == ".edit":

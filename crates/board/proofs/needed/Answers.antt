@@ -11,8 +11,8 @@ covered-requires c =
     let s = c in
     let f = fixed_rows s.args.board s.args.net s.requires.net_in_range in
     let e = stretch_range s.args.board s.args.net s.requires.board_in_range s.requires.net_in_range in
-    omega (arith, ap extra c.shortest_least.ensures)
+    omega (arith, ap extra c.shortest-least.ensures)
 
 pub returns : goal.returns
 unfolding needed covered
-returns c = omega (arith, ap extra c.shortest_least.ensures)
+returns c = omega (arith, ap extra c.shortest-least.ensures)

@@ -98,18 +98,18 @@ module _ (job : Job) (t : ℕ) where
       flags_length (λ top. tests.clear_rows job t top (needed job.board x.net)) (first_top x.net (shortest job.board x.net))
       (last_top job.board x.net (shortest job.board x.net) + 1 - first_top x.net (shortest job.board x.net)) part
 
-  pub slot_length : (i : ℕ) (x : Candidate) (bytes : List ℕ) → i * 1088 + 1024 ≤ length bytes → length (flag_slot job t i x bytes) ≡ length bytes
+  pub slot_length : (i : ℕ) (x : Candidate) (bytes : List ℕ) → i * 1024 + 1024 ≤ length bytes → length (flag_slot job t i x bytes) ≡ length bytes
   unfolding flag_slot
   slot_length i x bytes h = part_length i (flagged_by x) bytes (flagged_length x) h
 
-  slot_below : (i : ℕ) (x : Candidate) (bytes : List ℕ) (j : ℕ) → i * 1088 + 1024 ≤ length bytes → j < i * 1088
+  slot_below : (i : ℕ) (x : Candidate) (bytes : List ℕ) (j : ℕ) → i * 1024 + 1024 ≤ length bytes → j < i * 1024
       → get_or (flag_slot job t i x bytes) j 0 ≡ get_or bytes j 0
   unfolding flag_slot
   slot_below i x bytes j h l = part_below i (flagged_by x) bytes (flagged_length x) h j l
 
-  slot_at : (i : ℕ) (x : Candidate) (bytes : List ℕ) (top : ℕ) → job.board.rows ≤ 1024 → i * 1088 + 1024 ≤ length bytes
+  slot_at : (i : ℕ) (x : Candidate) (bytes : List ℕ) (top : ℕ) → job.board.rows ≤ 1024 → i * 1024 + 1024 ≤ length bytes
       → first_top x.net (shortest job.board x.net) ≤ top → top ≤ last_top job.board x.net (shortest job.board x.net)
-      → get_or (flag_slot job t i x bytes) (i * 1088 + (top - 1)) 0 ≡ flag (tests.clear_rows job t top (needed job.board x.net))
+      → get_or (flag_slot job t i x bytes) (i * 1024 + (top - 1)) 0 ≡ flag (tests.clear_rows job t top (needed job.board x.net))
   unfolding flag_slot
   slot_at i x bytes top rows h a b =
       let board = job.board in
@@ -117,21 +117,21 @@ module _ (job : Job) (t : ℕ) where
       let s = shortest board n in
       let first = first_top n s in
       let last = last_top board n s in
-      let part = take 1024 (drop (i * 1088) bytes) in
+      let part = take 1024 (drop (i * 1024) bytes) in
       let one : 1 ≤ first = first_top_one n s in
       let p = top_range board n s top a b in
       let q : last ≤ board.rows = (top_range board n s last (omega arith) (omega arith)).to_rows in
-      let size : length part ≡ 1024 = length-take-le 1024 (drop (i * 1088) bytes) (omega (arith, length-drop (i * 1088) bytes)) in
+      let size : length part ≡ 1024 = length-take-le 1024 (drop (i * 1024) bytes) (omega (arith, length-drop (i * 1024) bytes)) in
       part_at i (flagged_by x) bytes (flagged_length x) h (top - 1) (omega arith)
       ∙ flags_at (λ r. tests.clear_rows job t r (needed board n)) first (last + 1 - first) part top one a (omega arith) (omega arith)
 
   -- the parts from i on leave those before them
-  slots_below : (i : ℕ) (xs : List Candidate) (bytes : List ℕ) (j : ℕ) → (i + length xs) * 1088 ≤ length bytes → j < i * 1088
+  slots_below : (i : ℕ) (xs : List Candidate) (bytes : List ℕ) (j : ℕ) → (i + length xs) * 1024 ≤ length bytes → j < i * 1024
       → get_or (flag_slots job t i xs bytes) j 0 ≡ get_or bytes j 0
   unfolding flag_slots
   slots_below i [] bytes j h l = refl
   slots_below i (x ∷ xs) bytes j h l =
-      let room : i * 1088 + 1024 ≤ length bytes = omega arith in
+      let room : i * 1024 + 1024 ≤ length bytes = omega arith in
       let size : length (flag_slot job t i x bytes) ≡ length bytes = slot_length i x bytes room in
       slots_below (suc i) xs (flag_slot job t i x bytes) j (omega arith) (omega arith) ∙ slot_below i x bytes j room l
 
@@ -144,13 +144,13 @@ module _ (job : Job) (t : ℕ) where
       in_list [] rest = refl
       in_list (p ∷ ps) rest = in_list ps rest
 
-  slot_holds : job.board.rows ≤ 1024 → (pre xs : List Candidate) (x : Candidate) (bytes : List ℕ) → (length pre + suc (length xs)) * 1088 ≤ length bytes
+  slot_holds : job.board.rows ≤ 1024 → (pre xs : List Candidate) (x : Candidate) (bytes : List ℕ) → (length pre + suc (length xs)) * 1024 ≤ length bytes
       → Slot job t (arrays_of job.board (pre ++ (x ∷ xs))) (flag_slots job t (suc (length pre)) xs (flag_slot job t (length pre) x bytes)) (length pre) x
   unfolding arrays_of
   slot_holds rows pre xs x bytes room =
       let board = job.board in
       let i = length pre in
-      let part : i * 1088 + 1024 ≤ length bytes = omega arith in
+      let part : i * 1024 + 1024 ≤ length bytes = omega arith in
       let size : length (flag_slot job t i x bytes) ≡ length bytes = slot_length i x bytes part in
       let first = in_array (λ y. first_top y.net (shortest board y.net)) pre xs x in
       let last = in_array (λ y. last_top board y.net (shortest board y.net)) pre xs x in
@@ -164,24 +164,24 @@ module _ (job : Job) (t : ℕ) where
             let from : first_top x.net (shortest board x.net) ≤ top = rw first at a in
             let to : top ≤ last_top board x.net (shortest board x.net) = rw last at b in
             let p = top_range board x.net (shortest board x.net) top from to in
-            slots_below (suc i) xs (flag_slot job t i x bytes) (i * 1088 + (top - 1)) (omega arith) (omega arith)
+            slots_below (suc i) xs (flag_slot job t i x bytes) (i * 1024 + (top - 1)) (omega arith) (omega arith)
             ∙ slot_at i x bytes top rows part from to;
       }
 
-  pub slots_hold : job.board.rows ≤ 1024 → (pre xs : List Candidate) (bytes : List ℕ) → (length pre + length xs) * 1088 ≤ length bytes
+  pub slots_hold : job.board.rows ≤ 1024 → (pre xs : List Candidate) (bytes : List ℕ) → (length pre + length xs) * 1024 ≤ length bytes
       → Slots job t (arrays_of job.board (pre ++ xs)) (flag_slots job t (length pre) xs bytes) (length pre) xs
   unfolding flag_slots
   slots_hold rows pre [] bytes room = tt
   slots_hold rows pre (x ∷ xs) bytes room =
       let n : length (pre ++ (x ∷ [])) ≡ suc (length pre) = length-append pre (x ∷ []) ∙ omega arith in
-      let part : length pre * 1088 + 1024 ≤ length bytes = omega arith in
+      let part : length pre * 1024 + 1024 ≤ length bytes = omega arith in
       let size : length (flag_slot job t (length pre) x bytes) ≡ length bytes = slot_length (length pre) x bytes part in (
         slot_holds rows pre xs x bytes room,
         rw (n, append_snoc pre x xs) at (slots_hold rows (pre ++ (x ∷ [])) xs (flag_slot job t (length pre) x bytes) (omega arith)),
       )
 
 -- the arrays and the flags hold the candidates
-pub gathered : (job : Job) (earlier : List ℕ) (t : ℕ) (c : Candidates) (before after : List ℕ) → AcceptedJob job → length job.nets * 1088 ≤ length before
+pub gathered : (job : Job) (earlier : List ℕ) (t : ℕ) (c : Candidates) (before after : List ℕ) → AcceptedJob job → length job.nets * 1024 ≤ length before
     → c ≡ arrays_of job.board (candidates_of job earlier) → after ≡ flag_slots job t 0 (candidates_of job earlier) before → Gathered job earlier t c after
 unfolding candidates_of arrays_of
 gathered job earlier t c before after a room e f =

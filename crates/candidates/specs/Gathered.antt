@@ -28,7 +28,7 @@ candidates_from job earlier i (n ∷ ns) =
 unfoldable pub candidates_of : Job → List ℕ → List Candidate
 candidates_of job earlier = candidates_from job earlier 0 job.nets
 
--- slot i of the arrays holds candidate x; byte i * 1088 + (top − 1) of the flags tells whether the candidate is clear of blocks at
+-- slot i of the arrays holds candidate x; byte i * 1024 + (top − 1) of the flags tells whether the candidate is clear of blocks at
 -- each of its tops
 pub record Slot (job : Job) (t : ℕ) (c : Candidates) (flags : List ℕ) (i : ℕ) (x : Candidate) : Type 0 where
   pub net : get_or c.net i 0 ≡ x.index
@@ -37,7 +37,7 @@ pub record Slot (job : Job) (t : ℕ) (c : Candidates) (flags : List ℕ) (i : �
   pub first : get_or c.first i 0 ≡ first_top x.net (shortest job.board x.net)
   pub last : get_or c.last i 0 ≡ last_top job.board x.net (shortest job.board x.net)
   pub clear : (top : ℕ) → get_or c.first i 0 ≤ top → top ≤ get_or c.last i 0 →
-      get_or flags (i * 1088 + (top - 1)) 0 ≡ flag (clear_rows job t top (needed job.board x.net))
+      get_or flags (i * 1024 + (top - 1)) 0 ≡ flag (clear_rows job t top (needed job.board x.net))
 
 -- the slots from i on hold the candidates xs
 abbrev pub Slots : Job → ℕ → Candidates → List ℕ → ℕ → List Candidate → Type 0
@@ -70,7 +70,7 @@ arrays_of board xs =
 
 -- the bytes with f done to the 1,024 of part i, every other as it was
 unfoldable pub on_part : ℕ → (List ℕ → List ℕ) → List ℕ → List ℕ
-on_part i f bytes = take (i * 1088) bytes ++ (f (take 1024 (drop (i * 1088) bytes)) ++ drop 1024 (drop (i * 1088) bytes))
+on_part i f bytes = take (i * 1024) bytes ++ (f (take 1024 (drop (i * 1024) bytes)) ++ drop 1024 (drop (i * 1024) bytes))
 
 -- the flags with those of the tops of candidate x in part i
 unfoldable pub flag_slot : Job → ℕ → ℕ → Candidate → List ℕ → List ℕ

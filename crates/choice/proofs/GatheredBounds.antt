@@ -46,7 +46,7 @@ module _ (job : Job) (earlier : List ℕ) (t : ℕ) (c : Candidates) (flags : Li
       let s' = subst (λ l. Slots job t c flags i l × (k < i + length l)) (candidates_other job earlier x n ns e) s in
       slots_bounds b ns (suc x) i k (λ m l. a m (Memᴰ.tail l)) s' h)
 
-  pub gathered_bounds : AcceptedJob job → Gathered job earlier t c flags → length job.nets * 1088 ≤ length flags → InBounds c flags job.board.rows
+  pub gathered_bounds : AcceptedJob job → Gathered job earlier t c flags → length job.nets * 1024 ≤ length flags → InBounds c flags job.board.rows
   unfolding candidates_of
   gathered_bounds a g f =
       let m = candidates_length job earlier job.nets 0 in

@@ -28,7 +28,7 @@ module _ (first last flags : List ℕ) (j i : ℕ) where
   stands_here = has_clear_top first last flags j i
 
   -- at a top of the candidate its flag decides, elsewhere it cannot stand
-  pub stands_inside : (leb (get_or first i 0) j && leb j (get_or last i 0)) ≡ true → stands_here ≡ eqb (get_or flags (i * 1088 + (j - 1)) 0) 1
+  pub stands_inside : (leb (get_or first i 0) j && leb j (get_or last i 0)) ≡ true → stands_here ≡ eqb (get_or flags (i * 1024 + (j - 1)) 0) 1
   unfolding has_clear_top
   stands_inside t = rw t
 

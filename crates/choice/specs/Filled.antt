@@ -14,7 +14,7 @@ lent count net need weight first last = record { count = count; net = net; need 
 -- candidate i can stand with its top at row j: j is one of its tops, and it is clear of blocks there; flags outside its tops do not
 -- count
 unfoldable pub has_clear_top : List ℕ → List ℕ → List ℕ → ℕ → ℕ → Bool
-has_clear_top first last flags j i = leb (get_or first i 0) j && leb j (get_or last i 0) && eqb (get_or flags (i * 1088 + (j - 1)) 0) 1
+has_clear_top first last flags j i = leb (get_or first i 0) j && leb j (get_or last i 0) && eqb (get_or flags (i * 1024 + (j - 1)) 0) 1
 
 -- the sum with candidate i's top at row j, where `best` has best(r) at index r
 unfoldable pub sum_at : Candidates → List ℕ → ℕ → ℕ → ℕ
@@ -69,14 +69,14 @@ pub record SlotInBounds (c : Candidates) (rows i : ℕ) : Type 0 where
 pub record InBounds (c : Candidates) (flags : List ℕ) (rows : ℕ) : Type 0 where
   pub rows_range : (1 ≤ rows) × (rows ≤ 1024)
   pub count_range : c.count ≤ 512
-  pub flags_range : c.count * 1088 ≤ length flags
+  pub flags_range : c.count * 1024 ≤ length flags
   pub slots : (i : ℕ) → i < c.count → SlotInBounds c rows i
 
 -- what the pick of row j asks of candidate i: its arrays and flags have a place for it, and where it has a top at row j, the row below it
 -- is in the table and the sum is not too large
 pub record PickInBounds (c : Candidates) (flags best : List ℕ) (j i : ℕ) : Type 0 where
   pub slot_range : i < 512
-  pub flags_range : i * 1088 + 1024 ≤ length flags
+  pub flags_range : i * 1024 + 1024 ≤ length flags
   pub room : j ≤ get_or c.last i 0 → j + get_or c.need i 0 ≤ 1025
   pub low : j ≤ get_or c.last i 0 → get_or c.weight i 0 + get_or best (j + get_or c.need i 0) 0 ≤ 4194304
 

@@ -47,14 +47,14 @@ fn has_clear_top<'a>(
     i: usize,
     row: Row,
 ) -> bool
-    requires { (i < 512) × (1 ≤ row.0) × (row.0 ≤ 1024) × (i * 1088 + 1024 ≤ length flags.now) }
+    requires { (i < 512) × (1 ≤ row.0) × (row.0 ≤ 1024) × (i * 1024 + 1024 ≤ length flags.now) }
     ensures { result ≡ has_clear_top first.now last.now flags.now row.0 i }
 {
     let j = row.0;
     // one test of both ends, since either alone is as likely to hold as not
     let inside = (first[i] <= j) & (j <= last[i]);
     if inside {
-        return flags[i * 1088 + (j - 1)] == 1;
+        return flags[i * 1024 + (j - 1)] == 1;
     }
     false
 }

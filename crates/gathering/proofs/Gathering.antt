@@ -90,7 +90,7 @@ module _ (s : StoredJob) (accepted : AcceptedStored s) (net_size : length s.nets
         record { arrays = rw same p.arrays; size = p.size; bytes = λ t map. rw same (p.bytes t map) }
 
     -- an eligible net
-    pub passed_take : s.nnets * 1088 ≤ length before → Passed s placed words before found flags i → eligible_at (get_or (preceding_of (job_of s)) i 0) placed i ≡ true
+    pub passed_take : s.nnets * 1024 ≤ length before → Passed s placed words before found flags i → eligible_at (get_or (preceding_of (job_of s)) i 0) placed i ≡ true
         → (tops : NetTops) → TopsOf s.board (get_or s.nets i no_net) tops → (after : List ℕ)
         → after ≡ on_part found.count (flag_tops (λ top. all_unset words top tops.need) tops.first.0 (tops.last.0 + 1 - tops.first.0)) flags
         → Passed s placed words before (with_slot found (record { index = i; net = get_or s.nets i no_net }) tops) after (i + 1)
@@ -106,7 +106,7 @@ module _ (s : StoredJob) (accepted : AcceptedStored s) (net_size : length s.nets
         let more : first_candidates s placed (i + 1) ≡ xs ++ (x ∷ []) =
         rw (take_more s.nets i no_net (omega arith))
         (rw here at (candidates_taken (job_of s) (placed_numbers (job_of s) placed) (take i s.nets) n 0 (lookup ∙ e))) in
-        let part : found.count * 1088 + 1024 ≤ length flags = omega (arith, p.size) in
+        let part : found.count * 1024 + 1024 ≤ length flags = omega (arith, p.size) in
         let first = tops.first.0 in
         let count = tops.last.0 + 1 - tops.first.0 in
         let test : ℕ → Bool = λ top. all_unset words top tops.need in
@@ -123,7 +123,7 @@ module _ (s : StoredJob) (accepted : AcceptedStored s) (net_size : length s.nets
         }
 
   -- after all nets
-  pub passed_all : (t : ℕ) → MapOf (job_of s) t words → s.nnets * 1088 ≤ length before → i ≤ s.nnets → s.nnets ≤ i
+  pub passed_all : (t : ℕ) → MapOf (job_of s) t words → s.nnets * 1024 ≤ length before → i ≤ s.nnets → s.nnets ≤ i
       → Passed s placed words before found flags i → GatheredFrom (job_of s) placed t before found flags
   unfolding candidates_of
   passed_all t map room a b p =

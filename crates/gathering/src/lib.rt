@@ -19,10 +19,10 @@ use toptable::{tops_in, tops_table};
 fn flag_part(map: BlockMap, any: bool, tops: NetTops, i: usize, flags: &mut [u8])
     requires row_value { any ≡ false → (row : ℕ) → is_set map.words row ≡ false }
     requires le_first { (1 ≤ tops.first.0) × (tops.first.0 ≤ tops.last.0) × (1 ≤ tops.need) × (tops.last.0 + tops.need ≤ 1025) }
-    requires i_bound { i * 1088 + 1024 ≤ length flags.old }
+    requires i_bound { i * 1024 + 1024 ≤ length flags.old }
     ensures { flags.new ≡ on_part i (flag_tops (λ top. all_unset map.words top tops.need) tops.first.0 (tops.last.0 + 1 - tops.first.0)) flags.old }
 {
-    let from = i * 1088;
+    let from = i * 1024;
     let to = from + 1024;
     if any {
         blockmap::clear_tops(map, tops.first, tops.last, tops.need, &mut flags[from..to]);
@@ -57,7 +57,7 @@ pub fn gather(
 ) -> Candidates
     requires accepted_stored { AcceptedStored job.now }
     requires before_value { before.now ≡ preceding_of (job_of job.now) }
-    requires in_bounds { job.now.nnets * 1088 ≤ length flags.old }
+    requires in_bounds { job.now.nnets * 1024 ≤ length flags.old }
     ensures { GatheredFrom (job_of job.now) placed.now track.0 flags.old result flags.new }
 {
     // Lent as a slice only to tell the proof that the job has 512 slots for nets.

@@ -95,7 +95,7 @@ fn no_progress() -> Progress
 // The plan of a job: its tracks filled in order 1 to K, with flags for all its nets.
 fn plan_tracks(job: &StoredJob, flags: &mut [u8]) -> JobPlan
     requires accepted_stored { AcceptedStored job.now }
-    requires flags_room { job.now.nnets * 1088 ≤ length flags.old }
+    requires flags_room { job.now.nnets * 1024 ≤ length flags.old }
     ensures answer { result ≡ job_plan_of (job_of job.now) }
     ensures best { BestPlan (job_of job.now) result }
 {
@@ -120,13 +120,13 @@ fn plan_few(job: &StoredJob) -> JobPlan
     ensures answer { result ≡ job_plan_of (job_of job.now) }
     ensures best { BestPlan (job_of job.now) result }
 {
-    let mut flags = [0u8; 69632];
+    let mut flags = [0u8; 65536];
     plan_tracks(job, &mut flags)
 }
 
 // Room for the flags of 512 nets.
-fn all_flags() -> [u8; 557056] {
-    [0u8; 557056]
+fn all_flags() -> [u8; 524288] {
+    [0u8; 524288]
 }
 
 // The plan of a job of any number of nets.

@@ -20,7 +20,7 @@ returns-then-any c =
 pub returns-else-any : goal.returns-else-any
 returns-else-any c =
     let a = c.args in
-    let lent = mid_of (a.i * 1088) (a.i * 1088 + 1024 - a.i * 1088) a.flags.now in
+    let lent = mid_of (a.i * 1024) (a.i * 1024 + 1024 - a.i * 1024) a.flags.now in
     let none = c.requires.row_value c.if-any.false in
     part_back a.i (flagged_tops a.map.words a.tops) a.flags.now c.all_tops.new.flags
     (c.all_tops.ensures ∙ all_clear a.map.words a.tops.need a.tops.first.0 (a.tops.last.0 + 1 - a.tops.first.0) lent none)

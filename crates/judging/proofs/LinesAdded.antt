@@ -60,9 +60,9 @@ map_zero f z [] k = sym z
 map_zero f z (x ∷ xs) zero = refl
 map_zero f z (x ∷ xs) (suc k) = map_zero f z xs k
 
-not_not : (b : Bool) → not (not b) ≡ b
-not_not true = refl
-not_not false = refl
+not-not : (b : Bool) → not (not b) ≡ b
+not-not true = refl
+not-not false = refl
 
 -- a number that no net has, and one that a net has
 no_number : (ns : List Net) (k : ℕ) → ((n : Net) → Memᴰ n ns → is_numbered k n ≡ false) → any_of (eqb k) (map (λ n. n.number) ns) ≡ false
@@ -141,7 +141,7 @@ module _ (job : Job) (a : AcceptedJob job) where
       (λ t.
       let at = index_number job k index is (eqb-false index 512 t) in
       let on : any_of (eqb k) m.lined ≡ not (eqb (get_or stands index 0) 0) = ap (λ (q : ℕ). any_of (eqb q) m.lined) (sym at.1) ∙ old.lined_at index at.0 in
-      rw (t, some_number job.nets k index at.0 at.1, on, not_not (eqb (get_or stands index 0) 0)))
+      rw (t, some_number job.nets k index at.0 at.1, on, not-not (eqb (get_or stands index 0) 0)))
 
   -- ---- the net that precedes
 
@@ -189,7 +189,7 @@ module _ (job : Job) (a : AcceptedJob job) where
           ready_same found.net,
           rows,
           clear_same job m.track words blocks top (top + span found.net + extra s + 1 - top),
-          not_not (eqb (get_or stands found.index 0) 0),
+          not-not (eqb (get_or stands found.index 0) 0),
         )
 
 -- a wire that may stand is of a net without a line above

@@ -2,7 +2,7 @@
 -- last track begin and end the plan. Assumes nothing.
 use Prim.Native.Nat.{ℕ, zero, suc, ◌-◌, ◌≤◌}
 use mathlib.Core.Path.{◌≡◌, refl, sym, ap, ap₂, ◌∙◌}
-use mathlib.Core.Bool.{not, not_not}
+use mathlib.Core.Bool.{not, not-not}
 use mathlib.Core.List.{List, [], ◌∷◌, ◌++◌, map}
 use native.Mathlib.Omega.{arith}
 use lib.Dec.{eqb}
@@ -44,7 +44,7 @@ placed_first job t =
           let at : get_or (progress_to job t).placed k 0 ≡ placed_on trs n =
           get_or-append (map (placed_on trs) job.nets) _ 0 k (omega (arith, length-map job.nets (placed_on trs))) ∙
           map_at (placed_on trs) job.nets k no_net h in
-          sym (ap (λ x. not (eqb x 0)) at ∙ ap not (loose_track 1 n.number trs (omega arith) ∙ on_stand 1 n trs) ∙ not_not (is_on (numbers_on trs) n));
+          sym (ap (λ x. not (eqb x 0)) at ∙ ap not (loose_track 1 n.number trs (omega arith) ∙ on_stand 1 n trs) ∙ not-not (is_on (numbers_on trs) n));
     }
 
 pub gathered_first : (job : Job) (t : ℕ) (p : Progress) (before after : List ℕ) (c : Candidates) → OnTurn job t p →

@@ -9,7 +9,8 @@ file has a row for each name: old, a tab, new. A row of local_names.tsv is for o
   .rt    the same, in clauses and everywhere but in strings: no name of the code is in the table
   .edit  the texts of its lines 'old:' and 'new:', and its comment as above
   .md    what stands between backticks
-A name that Rattle makes (a goal, a loop) stays: in a function's answers the first name behind 'c.', and no other is in the table. Functions, exported names, strings, inputs and outputs stay.
+A name that Rattle makes (a goal, a loop) stays: in a function's answers the first name behind 'c.' and 'w.x-is', and no other is in the table.
+Functions, exported names, strings, inputs and outputs stay.
 """
 
 import os
@@ -27,7 +28,7 @@ ANTT = re.compile(STRING + r'|(?<![^\s(){}.;,@"«»])--[^\n]*')
 RUST = re.compile(STRING + r"|//[^\n]*")
 SPAN = re.compile(r"`[^`\n]+`")
 # words that stood in the spelling of today, and make room for a definition: turned in proofs alone
-MADE = re.compile(r'(?<![^\s(){};,@"«»])c\.' + WORD.pattern)
+MADE = re.compile(r'(?<![^\s(){};,@"«»])(?:c\.' + WORD.pattern + r"|w\.\w+-is\b)")
 ROOM = ("by_row", "covers_of", "step_lines")
 
 

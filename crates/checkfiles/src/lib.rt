@@ -18,7 +18,7 @@ pub struct CheckedFiles {
 }
 
 // Checks the layout of one file for the job of another. The texts come back with the line, so that the contract can say whose verdict it is.
-pub fn checked_files(rt: &impl Files, job_path: &str, layout_path: &str) -> CheckedFiles
+pub fn checked_files(rt: &impl Files, job_path: &[u8], layout_path: &[u8]) -> CheckedFiles
     ensures job { ReadText result.job }
     ensures layout { ReadText result.layout }
     ensures line { LineOfFiles result }
@@ -36,7 +36,7 @@ pub fn checked_files(rt: &impl Files, job_path: &str, layout_path: &str) -> Chec
 
 // Checks board.lay for board.job, and prints the verdict. A failure to print is passed over.
 pub fn check_files(rt: &(impl Files + Print)) {
-    let checked = checked_files(rt, "board.job", "board.lay");
+    let checked = checked_files(rt, b"board.job", b"board.lay");
     let line = checked.line;
     let bytes = line.bytes;
     let _ = rt.write_all(&bytes[..line.used]);

@@ -75,10 +75,14 @@ pub fn text_from<R: Read + Drop>(opened: io::Result<R>) -> FileText
     FileText { bytes, used }
 }
 
-// Reads the file of a name. One that can't be opened counts as empty.
-pub fn file_text(rt: &impl Files, path: &str) -> FileText
+// Reads the file of a name. One that can't be opened counts as empty, and so does one whose name is not UTF-8, as no such file can be opened.
+pub fn file_text(rt: &impl Files, path: &[u8]) -> FileText
     ensures read { ReadText result }
     ensures counts { IsPrefixLen result.used result.bytes }
 {
-    text_from(fs::open(rt, path))
+    let opened = match str::from_utf8(path) {
+        Ok(name) => fs::open(rt, name),
+        Err(_) => Err(io::Error::from(io::ErrorKind::InvalidInput)),
+    };
+    text_from(opened)
 }

@@ -79,14 +79,16 @@ def code(text, names, quiet, how):
     return "".join(out) + words(text[at:], names, how)
 
 
-def edit(text, names, in_proofs, outside):
+def edit(text, names, outside, crate, local):
     """The lines of a wrong version: each pair of texts by the file that stands above it."""
-    out, to = [], outside
+    out, to, own = [], outside, {}
     for line in text.split("\n"):
         if line.startswith("file:"):
-            to = in_proofs if line.split()[1].startswith("proofs/") else outside
+            path = line.split()[1]
+            to = names if path.startswith("proofs/") else outside
+            own = local.get(os.path.normpath(os.path.join("crates", crate, path)), {})
         elif line.startswith(("old:", "new:")):
-            line = line[:4] + code(line[4:], to, ANTT, BARE)
+            line = line[:4] + code(code(line[4:], to, ANTT, BARE), own, ANTT, FREE)
         else:
             line = prose(line, names)
         out.append(line)
@@ -115,7 +117,7 @@ def main(root):
             elif kind == ".rt":
                 new = code(old, outside, RUST, BARE)
             elif kind == ".edit":
-                new = edit(old, names, names, outside)
+                new = edit(old, names, outside, os.path.relpath(path, root).split(os.sep)[1], local)
             else:
                 new = SPAN.sub(lambda m: words(m[0], outside, BARE), old)
             if new != old:

@@ -4,7 +4,7 @@ use mathlib.Core.Path.{◌≡◌, refl, subst}
 use mathlib.Core.List.{List, ◌++◌}
 use lib.ListN.{length, take, drop, replicate}
 use Rattle.files.specs.declared.FileText.{FileText}
-use Rattle.std.specs.Prelude.{IfSome, Option, Some, Ok, Err}
+use Rattle.std.specs.Prelude.{IfSome, Option, Some, Result, Ok, Err}
 use Rattle.std.specs.Io.{StartsWith}
 use Rattle.files.specs.Unopened.{EmptyUnopened}
 use Rattle.files.specs.Given.{FirstGiven}
@@ -13,6 +13,11 @@ use Rattle.files.specs.FileTexts.{text_of, ReadText}
 -- nothing is read of what could not be opened
 pub unopened_is : (F : Type 0) {E : Type 0} (e : E) (r : ℕ) → EmptyUnopened {F = F} (Err e) r → r ≡ 0
 unopened_is F e r h = h
+
+-- where nothing is read, nothing is asked, whether it could be opened or not
+pub nothing_read : {F E : Type 0} (opened : Result F E) → EmptyUnopened opened 0
+nothing_read (Ok file) = tt
+nothing_read (Err e) = refl
 
 -- the text of a reader whose bytes are known is the first of them, as many as were read
 pub given_is : {F : Type 0} (E : Type 0) (remaining : F → Option (List ℕ)) (file : F) (xs : List ℕ) (t : FileText) → remaining file ≡ Some xs

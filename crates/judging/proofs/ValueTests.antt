@@ -137,8 +137,8 @@ module _ (stands : List ℕ) (j : LinesJudged) (number index : ℕ) where
   abbrev new_loose_stands : Bool
   new_loose_stands = not (eqb index 512) && eqb (get_or stands index 0) 0 && ltb j.last number
 
-  pub no_net : index ≡ 512 → new_loose_stands ≡ false
-  no_net e = rw (eq-eqb index 512 e)
+  pub no_net_lem : index ≡ 512 → new_loose_stands ≡ false
+  no_net_lem e = rw (eq-eqb index 512 e)
 
   pub has_line : (get_or stands index 0 ≡ 0 → ⊥) → new_loose_stands ≡ false
   has_line d = rw (ne_eqb (get_or stands index 0) 0 d, and-false (not (eqb index 512)))

@@ -112,10 +112,10 @@ unfolding is_points points_in
 points_are ps h = rw (points_read ps, same_refl (points_then ps shut_text), h)
 
 -- no point stands there though the text is points: there is none
-no_point : (s : List ℕ) (at : ℕ) (ps : List Point) → point_at s at ≡ Absent → drop at s ≡ points_then ps shut_text → small_points ps ≡ true → drop at s ≡ shut_text
+no_point_lem : (s : List ℕ) (at : ℕ) (ps : List Point) → point_at s at ≡ Absent → drop at s ≡ points_then ps shut_text → small_points ps ≡ true → drop at s ≡ shut_text
 unfolding points_then small_points
-no_point s at [] a e h = e
-no_point s at (p ∷ ps) a e h =
+no_point_lem s at [] a e h = e
+no_point_lem s at (p ∷ ps) a e h =
     let k = and_split (is_small p.column && is_small p.row) (small_points ps) h in
     let m = and_split (is_small p.column) (is_small p.row) k.0 in
     let r = point_there s at p (points_then ps shut_text) e (ltb-true p.column 1000000 m.0) (ltb-true p.row 1000000 m.1) in
@@ -124,7 +124,7 @@ no_point s at (p ∷ ps) a e h =
     absurd (omega arith)
 
 pub points_end : (s : List ℕ) (at : ℕ) → point_at s at ≡ Absent → is_points (drop at s) ≡ true → drop at s ≡ shut_text
-points_end s at a e = let r = are_points (drop at s) e in no_point s at r.points a r.text r.small
+points_end s at a e = let r = are_points (drop at s) e in no_point_lem s at r.points a r.text r.small
 
 pub points_stop : (s : List ℕ) (at : ℕ) → point_at s at ≡ Absent → is_points (drop at s) ≡ same (drop at s) shut_text
 unfolding small_points points_then

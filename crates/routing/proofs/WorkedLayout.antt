@@ -29,10 +29,10 @@ unfoldable pub computed_text : Job → List ℕ
 unfolding route_text route_layout drawn_tracks layout_text layout_lines lines_text tracks_then wires_then loose_then line_text points_then digits digits_in wire_of points_on corners distinct_from same_point near_row far_row via_column wire_column loose_of without numbers_on plan_of plan_from filled_track wires_of walk_from walk choice reaches best best_last table best_at fits_at sum_with first_top last_top covered is_eligible is_ready is_before is_on clear_rows blocked closes_row weight needed shortest plain_length span upper lower width any_of all_of first_of
 computed_text job = route_text job
 
-pub worked_text : route_text worked_job ≡ bytes
+pub worked_text_lem : route_text worked_job ≡ bytes
     "(layout\n (track 1 9)\n (wire 1 (0 2) (1 2) (1 4) (5 4))\n (wire 2 (0 6) (1 6) (1 5) (2 5) (2 8) (1 8) (5 8))\n (wire 3 (0 9) (1 9) (1 10) (5 10))\n (track 2 2)\n (wire 4 (0 3) (3 3) (3 2) (5 2))\n (loose 5)\n)\n"
 unfolding computed_text
-worked_text = refl
+worked_text_lem = refl
 
 -- net 1 has the most rows
 pub unweighted_text : route_text (weighted_job 2) ≡ bytes "(layout\n (track 1 6)\n (wire 1 (0 1) (1 1) (1 6) (3 6))\n (loose 2)\n (loose 3)\n)\n"

@@ -13,7 +13,7 @@ use Rattle.jobfile.specs.Read.{board_of, empty_job}
 use Rattle.jobfile.specs.TextsRead.{read_as}
 use Rattle.jobfile.proofs.Texts.{worked_board}
 use Rattle.routing.specs.Route.{route_text}
-use Rattle.routing.proofs.WorkedLayout.{computed_text, worked_text}
+use Rattle.routing.proofs.WorkedLayout.{computed_text, worked_text_lem}
 use Rattle.starred.specs.Boards.{AsStated, starred_boards}
 
 -- the job of the net from row 10 to row 14, on a board with so many rows and one track
@@ -29,7 +29,7 @@ no_nets = refl
 pub all_stated : Each AsStated starred_boards
 unfolding read_as
 all_stated = (
-  record { job = worked_job; read = worked_board; written_is = worked_text },
+  record { job = worked_job; read = worked_board; written_is = worked_text_lem },
   (
     record { job = tried_job 21 23 23 12; net = tried_net 23 23 12; read = refl; only = refl; tried = rows_21; so_many = refl },
     (

@@ -4,7 +4,7 @@
 ghost use Rattle.std.specs.Prelude.{◌+◌, ◌≤◌, length};
 ghost use Rattle.text.specs.Written.{Written, WrittenAt};
 ghost use Rattle.writer.specs.Lines.{wire_line, Drawable, ended_line};
-ghost use Rattle.layout.specs.Tree.{track as trackLine, loose as looseLine};
+ghost use Rattle.layout.specs.Tree.{track as track_of, loose as loose_of};
 
 use board::{Board, Net, Row, Shape, Track};
 use keywords::Vocabulary;
@@ -33,8 +33,8 @@ pub fn wire_line(
 
 // Writes the line of a track: its number and its sum.
 pub fn track_line(out: &mut [u8], track: Track, sum: usize) -> usize
-    requires { length (ended_line (trackLine track.0 sum)) ≤ length out.old }
-    ensures { Written (ended_line (trackLine track.0 sum)) out.old out.new result }
+    requires { length (ended_line (track_of track.0 sum)) ≤ length out.old }
+    ensures { Written (ended_line (track_of track.0 sum)) out.old out.new result }
 {
     let t = track.0;
     let a = linewriter::put_head(out, 0, Vocabulary::Layout, 1, t);
@@ -44,8 +44,8 @@ pub fn track_line(out: &mut [u8], track: Track, sum: usize) -> usize
 
 // Writes the line of a loose net.
 pub fn loose_line(out: &mut [u8], number: usize) -> usize
-    requires { length (ended_line (looseLine number)) ≤ length out.old }
-    ensures { Written (ended_line (looseLine number)) out.old out.new result }
+    requires { length (ended_line (loose_of number)) ≤ length out.old }
+    ensures { Written (ended_line (loose_of number)) out.old out.new result }
 {
     let a = linewriter::put_head(out, 0, Vocabulary::Layout, 3, number);
     text::put_bytes_at(out, a, b")\n")
@@ -72,16 +72,16 @@ pub fn put_wire(
 
 // Writes the line of a track from a place on.
 pub fn put_track(out: &mut [u8], at: usize, track: Track, sum: usize) -> usize
-    requires { at + length (ended_line (trackLine track.0 sum)) ≤ length out.old }
-    ensures { WrittenAt at (ended_line (trackLine track.0 sum)) out.old out.new result }
+    requires { at + length (ended_line (track_of track.0 sum)) ≤ length out.old }
+    ensures { WrittenAt at (ended_line (track_of track.0 sum)) out.old out.new result }
 {
     at + track_line(&mut out[at..], track, sum)
 }
 
 // Writes the line of a loose net from a place on.
 pub fn put_loose(out: &mut [u8], at: usize, number: usize) -> usize
-    requires { at + length (ended_line (looseLine number)) ≤ length out.old }
-    ensures { WrittenAt at (ended_line (looseLine number)) out.old out.new result }
+    requires { at + length (ended_line (loose_of number)) ≤ length out.old }
+    ensures { WrittenAt at (ended_line (loose_of number)) out.old out.new result }
 {
     at + loose_line(&mut out[at..], number)
 }

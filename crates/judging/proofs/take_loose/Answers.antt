@@ -3,7 +3,7 @@ use mathlib.Core.Path.{refl, sym, ap, ◌∙◌}
 use native.Mathlib.Omega.{arith}
 use Rattle.layout.specs.Tree.{loose}
 use Rattle.judging.specs.declared.LinesJudged.{LinesJudged}
-use Rattle.judging.proofs.ValueTests.{no_net, has_line, not_above, new_loose}
+use Rattle.judging.proofs.ValueTests.{no_net_lem, has_line, not_above, new_loose}
 use Rattle.judging.proofs.Turns.{closes_off, loose_place}
 use Rattle.judging.proofs.Ranges.{off_range, closed_range, kept_range, settled_range}
 use Rattle.judging.proofs.Steps.{loose_off, loose_broken, loose_taken}
@@ -40,7 +40,7 @@ returns-then-index-eq512 c =
           rw c.broken.ensures
           (loose_broken job a.line a.m a.stands.now acc a.number a.index n st (sym (loose_place job a.tracks is a.m a.stands.now st a.number k) ∙ turn)
           (λ d. c.if-above-eq-DECIDED.false (ap (λ (j : LinesJudged). j.stage) e ∙ d))
-          (no_net a.stands.now a.m a.number a.index c.if-index-eq512.true) k);
+          (no_net_lem a.stands.now a.m a.number a.index c.if-index-eq512.true) k);
       judged_in_range_2 = rw c.broken.ensures (off_range a.line a.line);
     }
 

@@ -5,8 +5,8 @@
 #
 #     bench/run.sh SECOND_ROUTER     the folder of the second router (its sources stand in src/), or set the variable of this name
 #
-# Builds the static library of the crate `exports`, the second router as a library, and bench/main.rs, all optimized, below target/, and
-# runs the last. Beside target/ it writes what `rt lib` makes, crates/exports/out.
+# Builds the static library of the crate `exports` in crates/exports/out, the second router as a library and bench/main.rs below target/, all
+# optimized, and runs the last.
 set -e
 second=$(realpath "${1:-${SECOND_ROUTER:?give the folder of the second router, or set SECOND_ROUTER}}")
 . "$(dirname "$0")/libraries.sh"

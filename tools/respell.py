@@ -9,7 +9,7 @@ file has a row for each name: old, a tab, new. A row of local_names.tsv is for o
   .rt    the same, in clauses and everywhere but in strings: no name of the code is in the table
   .edit  the texts of its lines 'old:' and 'new:', and its comment as above
   .md    what stands between backticks
-A name that Rattle makes (a goal, a loop) stays: in a function's answers the first name behind 'c.' and 'w.x-is', and no other is in the table.
+A name that Rattle makes (a goal, a loop) stays: in a file Answers or Invariants the first name behind 'c.' and 'w.x-is', and no other is in the table.
 Functions, exported names, strings, inputs and outputs stay.
 """
 

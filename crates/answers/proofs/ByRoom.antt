@@ -1,5 +1,6 @@
 -- What the test of the room decides: the answer and the buffer where a text has more bytes than the buffer, and where it is copied; the
 -- document's values of both, that both are right, and what holds of the bytes written. Assumes nothing.
+use Rattle.std.specs.Prelude.{Ok, Err}
 use Prim.Native.Nat.{ℕ, ◌≤◌, ◌<◌}
 use mathlib.Core.Path.{◌≡◌, refl}
 use mathlib.Core.List.{List}
@@ -15,17 +16,17 @@ use Rattle.text.specs.Written.{Written}
 use Rattle.jobfile.specs.Read.{Read, accepted, refused, read_job}
 use Rattle.jobfile.proofs.Accepts.{read_accepted}
 use Rattle.jobfile.proofs.Refusals.{read_refused, read_faultless}
-use Rattle.answers.specs.declared.TextAnswer.TheVariants as Is
+use Rattle.answers.specs.declared.TextRefusal.TheVariants as Is
 use Rattle.answers.specs.Answers.{answer_values, document_values, answer_for, buffer_for, text_answer, buffer_after, RightFor, OfWritten}
 
 -- ---- the copy into the buffer
 
-pub small_for : (t before : List ℕ) {n : ℕ} → n ≡ length t → length before < n → (Is.TooSmall n ≡ answer_for t (length before)) × (before ≡ buffer_for t before)
+pub small_for : (t before : List ℕ) {n : ℕ} → n ≡ length t → length before < n → (Err (Is.TooSmall n) ≡ answer_for t (length before)) × (before ≡ buffer_for t before)
 unfolding answer_for buffer_for
 small_for t before e l = rw (e, lt-leb (length t) (length before) (omega (arith, l, e))) (refl, refl)
 
 pub written_for : (t before : List ℕ) {after : List ℕ} {n : ℕ} → Written t before after n → length t ≤ length before →
-    (Is.Written n ≡ answer_for t (length before)) × (after ≡ buffer_for t before)
+    (Ok n ≡ answer_for t (length before)) × (after ≡ buffer_for t before)
 unfolding answer_for buffer_for
 written_for t before w l = rw (w.used, w.bytes, le-leb (length t) (length before) l) (refl, refl)
 

@@ -1,64 +1,71 @@
 // The answer of an operation that reads a job file and writes a text for its job into a lent buffer, whatever the text is, and the
-// document's number and values of it.
+// document's number and values of it. The answer is the length of the text, which then stands at the start of the buffer, bytes beyond it
+// kept; or a refusal, which leaves the buffer untouched.
 #![tactic(auto)]
 
-ghost use Rattle.std.specs.Prelude.{◌≡◌, length};
+ghost use Rattle.std.specs.Prelude.{◌≡◌, length, Err};
 ghost use Rattle.answers.specs.Answers.{answer_values, answer_for, buffer_for};
+ghost use Rattle.answers.specs.declared.TextRefusal.TheVariants.{Refused};
 
-use jobfile::Outcome;
+use jobfile::Refusal;
 
-// The answer.
+// Why no text is written.
 #[derive(Clone, Copy)]
-pub enum TextAnswer {
-    // refused as read does; the buffer is untouched
-    Refused(Outcome),
-    // refusal 10: the text has more bytes than the buffer, so many; the buffer is untouched
+pub enum TextRefusal {
+    // refused as read does
+    Refused(Refusal),
+    // refusal 10: the text has more bytes than the buffer, so many
     TooSmall(usize),
-    // the text stands at the start of the buffer and has so many bytes; bytes beyond it are kept
-    Written(usize),
 }
 
-// The number of a refusal; 0 where nothing is refused.
-pub fn answer_number(answer: TextAnswer) -> usize
-    ensures { result ≡ (answer_values answer).number }
-{
-    match answer {
-        TextAnswer::Refused(outcome) => jobrules::number_of(outcome),
-        TextAnswer::TooSmall(_) => 10,
-        TextAnswer::Written(_) => 0,
+impl From<Refusal> for TextRefusal {
+    ghost from_gives = { λ o e. e ≡ Refused o };
+
+    fn from(refusal: Refusal) -> TextRefusal {
+        TextRefusal::Refused(refusal)
     }
 }
 
-// The line that a refusal names; 0 where it names none.
-pub fn answer_line(answer: TextAnswer) -> usize
-    ensures { result ≡ (answer_values answer).line }
-{
-    match answer {
-        TextAnswer::Refused(outcome) => jobrules::line_of(outcome),
-        TextAnswer::TooSmall(_) => 0,
-        TextAnswer::Written(_) => 0,
+impl TextRefusal {
+    // The document's number.
+    pub fn number(self) -> usize
+        ensures { result ≡ (answer_values (Err self)).number }
+    {
+        match self {
+            TextRefusal::Refused(refusal) => refusal.number(),
+            TextRefusal::TooSmall(_) => 10,
+        }
     }
-}
 
-// The length of the text: written, or needed.
-pub fn answer_bytes(answer: TextAnswer) -> usize
-    ensures { result ≡ (answer_values answer).bytes }
-{
-    match answer {
-        TextAnswer::Refused(_) => 0,
-        TextAnswer::TooSmall(needed) => needed,
-        TextAnswer::Written(written) => written,
+    // The line that it names; 0 where it names none.
+    pub fn line(self) -> usize
+        ensures { result ≡ (answer_values (Err self)).line }
+    {
+        match self {
+            TextRefusal::Refused(refusal) => refusal.line(),
+            TextRefusal::TooSmall(_) => 0,
+        }
+    }
+
+    // The length needed; 0 where read refuses.
+    pub fn needed(self) -> usize
+        ensures { result ≡ (answer_values (Err self)).bytes }
+    {
+        match self {
+            TextRefusal::Refused(_) => 0,
+            TextRefusal::TooSmall(needed) => needed,
+        }
     }
 }
 
 // Copies the text of an accepted job into a lent buffer, unless it has more bytes than the buffer.
-pub fn put_answer(bytes: &[u8], out: &mut [u8]) -> TextAnswer
+pub fn put_answer(bytes: &[u8], out: &mut [u8]) -> Result<usize, TextRefusal>
     ensures answer { result ≡ answer_for bytes.now (length out.old) }
     ensures buffer { out.new ≡ buffer_for bytes.now out.old }
 {
     let needed = bytes.len();
     if out.len() < needed {
-        return TextAnswer::TooSmall(needed);
+        return Err(TextRefusal::TooSmall(needed));
     }
-    TextAnswer::Written(text::put_bytes(out, bytes))
+    Ok(text::put_bytes(out, bytes))
 }

@@ -2,10 +2,11 @@
 use Prim.Native.Nat.{ℕ, zero, suc, ◌+◌, ◌-◌, ◌≤◌, ◌<◌}
 use mathlib.Core.Path.{◌≡◌, refl, sym, ap, ◌∙◌}
 use mathlib.Core.Bool.{Bool, false}
-use mathlib.Core.List.{List}
+use mathlib.Core.List.{List, ◌∷◌, ◌++◌, append_assoc}
 use native.Mathlib.Omega.{arith}
-use lib.ListN.{get_or, set, length, length-set}
-use lib.Seq.{get_or-set_same, get_or-set_other, set-set, set_comm, set-get_or}
+use lib.ListN.{get_or, set, length, length-set, take, drop, replicate, length-append, length-drop, length-replicate, take-append-drop}
+use lib.Seq.{get_or-set_same, get_or-set_other, set-set, set_comm, set-get_or, set-append_seam, length-take-le, drop-cons}
+use borrow.Rule.Slice.PartMut.{put_mid}
 use lib.Dec.{eqb}
 use borrow.Author.Tests.{eqb-true, eqb-false}
 use Rattle.lists.proofs.Cases.{by_test}
@@ -107,3 +108,38 @@ unfolding flag_tops
 flags_same f g first zero flags h = refl
 flags_same f g first (suc k) flags h =
     rw (flags_same f g first k flags (λ top a b. h top a (omega arith)), h (first + k) (omega arith) (omega arith))
+
+-- a part of the flags that is filled with one byte
+
+replicate_last : (k v : ℕ) (t : List ℕ) → replicate k v ++ (v ∷ t) ≡ v ∷ (replicate k v ++ t)
+replicate_last zero v t = refl
+replicate_last (suc k) v t = ap (λ (l : List ℕ). v ∷ l) (replicate_last k v t)
+
+fill_more : (before after : List ℕ) (k v y n : ℕ) → length before + k ≡ n
+    → set (before ++ (replicate k v ++ (y ∷ after))) n v ≡ before ++ (v ∷ (replicate k v ++ after))
+fill_more before after k v y n h =
+    let front = before ++ replicate k v in
+    let l : n ≡ length front = simp (length-append, length-replicate) (omega arith) in
+    ap (λ (l : List ℕ). set l n v) (sym (append_assoc before (replicate k v) (y ∷ after)))
+    ∙ ap (λ (m : ℕ). set (front ++ (y ∷ after)) m v) l
+    ∙ set-append_seam front y after v
+    ∙ append_assoc before (replicate k v) (v ∷ after)
+    ∙ ap (λ (l : List ℕ). before ++ l) (replicate_last k v after)
+
+fill_tops : (b : Bool) (first k : ℕ) (flags : List ℕ) → 1 ≤ first → first + k ≤ length flags + 1
+    → put_mid (first - 1) k flags (replicate k (flag b)) ≡ flag_tops (λ t. b) first k flags
+unfolding flag_tops
+fill_tops b first zero flags o h = take-append-drop (first - 1) flags
+fill_tops b first (suc k) flags o h =
+    let p = first - 1 in
+    let l : length (take p flags) + k ≡ first + k - 1 = omega (arith, length-take-le p flags (omega arith)) in
+    let d : drop k (drop p flags) ≡ get_or (drop p flags) k 0 ∷ drop (suc k) (drop p flags) = drop-cons (drop p flags) k 0 (omega (arith, length-drop p flags)) in
+    sym (fill_more (take p flags) (drop (suc k) (drop p flags)) k (flag b) (get_or (drop p flags) k 0) (first + k - 1) l)
+    ∙ ap (λ (r : List ℕ). set (take p flags ++ (replicate k (flag b) ++ r)) (first + k - 1) (flag b)) (sym d)
+    ∙ ap (λ (r : List ℕ). set r (first + k - 1) (flag b)) (fill_tops b first k flags o (omega arith))
+
+pub filled : (b : Bool) (first last v n : ℕ) (flags ys : List ℕ) → 1 ≤ first → first ≤ last → last ≤ length flags → v ≡ flag b
+    → n ≡ last - (first - 1) → ys ≡ replicate n v → put_mid (first - 1) (last - (first - 1)) flags ys ≡ flag_tops (λ t. b) first (last + 1 - first) flags
+filled b first last v n flags ys o h l e m f =
+    let k : last - (first - 1) ≡ last + 1 - first = omega arith in
+    rw (f, m, e, k) (fill_tops b first (last + 1 - first) flags o (omega arith))

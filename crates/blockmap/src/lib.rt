@@ -4,7 +4,7 @@
 ghost use Rattle.std.specs.Prelude.{◌≡◌, ◌&&◌, ◌||◌, true, false, ℕ, ◌+◌, ◌-◌, ◌≤◌, eqb, leb, length, replicate};
 ghost use Rattle.board.specs.Job.{closes_row};
 ghost use Rattle.blockmap.specs.Bits.{is_set};
-ghost use Rattle.blockmap.specs.Clear.{all_unset, flag, flag_tops};
+ghost use Rattle.blockmap.specs.Clear.{all_unset, flag_tops};
 
 use board::{Block, Row, Track};
 
@@ -73,25 +73,12 @@ pub fn with_block_on(map: BlockMap, track: Track, block: Block) -> BlockMap
     map
 }
 
-// A flag as a byte.
-fn byte_of(clear: bool) -> u8
-    ensures { result ≡ flag clear }
-{
-    if clear { 1 } else { 0 }
-}
-
 // Flags each top row from `first` to `last` as `clear` says.
 fn flag_all(clear: bool, first: Row, last: Row, flags: &mut [u8])
     requires { (1 ≤ first.0) × (first.0 ≤ last.0) × (last.0 ≤ 1025) × (last.0 ≤ length flags.old) }
     ensures { flags.new ≡ flag_tops (λ top. clear) first.0 (last.0 + 1 - first.0) flags.old }
 {
-    let byte = byte_of(clear);
-    let start = first.0;
-    let stop = last.0 + 1;
-    for top in start..stop {
-        let index = top - 1;
-        flags[index] = byte;
-    }
+    flags[first.0 - 1..last.0].fill(u8::from(clear));
 }
 
 // Flags the top rows from `first` to `last`: byte top − 1 becomes 1 if the `rows` rows from there on are clear, otherwise 0. Nested loops
@@ -114,7 +101,7 @@ pub fn clear_tops(map: BlockMap, first: Row, last: Row, rows: usize, flags: &mut
         }
         let index = top - 1;
         let end = top + rows;
-        let from = if known < top { top } else { known };
+        let from = known.max(top);
         for row in from..end {
             if is_blocked(&map.words, Row(row)) {
                 blocked = row;

@@ -1,3 +1,2 @@
--- Laws of the keys of blocks.
-pub mod Inserting
+-- Laws of sorted blocks.
 pub mod Sorting

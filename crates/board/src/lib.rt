@@ -9,12 +9,12 @@ ghost use Rattle.board.specs.Accepted.{BoardInRange, NetInRange};
 // A row of the channel, 1 to 1,024 from the top; its bit and array index are row − 1. Another number stands only where there is no row (0: in
 // an unused slot of a job by value, in what the check keeps of the lines above, for a net that is not on a track), and in what is not yet
 // tested: the net or block that `reader` makes of a line, the top that a wire of a layout has.
-#[derive(Clone, Copy)]
+#[derive(Clone, Copy, PartialEq, Eq, PartialOrd, Ord)]
 pub struct Row(pub usize);
 
 // A track of the channel, 1 to 128 from the left. Another number stands only where there is no track (0: in an unused slot of a job by value,
 // and in the check where no track line stands above), and in what is not yet tested: the block of a job's line, the track of a layout's.
-#[derive(Clone, Copy)]
+#[derive(Clone, Copy, PartialEq, Eq, PartialOrd, Ord)]
 pub struct Track(pub usize);
 
 // The size of the channel: H rows and K tracks.
@@ -37,7 +37,7 @@ pub struct Net {
 }
 
 // A block closes rows `first` to `last` (A to B) of one track on layer 2.
-#[derive(Clone, Copy)]
+#[derive(Clone, Copy, PartialEq, Eq, PartialOrd, Ord)]
 pub struct Block {
     pub track: Track,
     pub first: Row,

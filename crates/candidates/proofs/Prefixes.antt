@@ -7,7 +7,7 @@ use lib.ListN.{length, set, replicate, length-append}
 use lib.Seq.{set-append_seam}
 use Rattle.candidates.specs.Placed.{padded}
 
-pub padded_more : (d i v : ℕ) (xs : List ℕ) → length xs ≡ i → i < 512 → set (padded d xs) i v ≡ padded d (xs ++ (v ∷ []))
+pub padded_more : {A : Type 0} (d : A) (i : ℕ) (v : A) (xs : List A) → length xs ≡ i → i < 512 → set (padded d xs) i v ≡ padded d (xs ++ (v ∷ []))
 unfolding padded
 padded_more d i v xs l h =
     let m : length (xs ++ (v ∷ [])) ≡ suc i = length-append xs (v ∷ []) ∙ omega arith in

@@ -1,5 +1,6 @@
 -- What holds of each answer of check, that it holds of the answer by definition for an accepted job, and the document's number, word and line.
 -- Assumes nothing.
+use Rattle.std.specs.Prelude.{Result, Ok, Err}
 use Prim.Native.Nat.{ℕ, ◌≤◌, ◌<◌}
 use mathlib.Core.Path.{◌≡◌, refl}
 use mathlib.Core.List.{List}
@@ -16,25 +17,25 @@ use Rattle.sound.specs.Sound.{Sound}
 use Rattle.drc.specs.Judge.{Verdict, sound_text, broken_at, judge}
 use Rattle.drc.proofs.FirstBroken.{judge_breach, judge_first}
 use Rattle.drc.proofs.JudgeSound.{judge_sound}
-use Rattle.checker.specs.declared.CheckAnswer.{CheckAnswer}
-use Rattle.checker.specs.declared.CheckAnswer.TheVariants.{Refused, LayoutTooLong, Passes, Broken}
+use Rattle.checker.specs.declared.CheckError.{CheckError}
+use Rattle.checker.specs.declared.CheckError.TheVariants.{Refused, LayoutTooLong, Broken}
 use Rattle.checker.specs.Answers.{check_values, verdict_values, document_verdict, verdict_answer, check_answer}
 use Rattle.checker.specs.RightVerdict.{Faultless, job_held, FirstBreach}
 
 module _ (job layout : List ℕ) where
   -- what holds where the answer is given
-  abbrev pub Holds : CheckAnswer → Type 0
-  Holds (Refused o) = FirstFault job o
-  Holds LayoutTooLong = Faultless job × (64000 < length layout)
-  Holds Passes = Faultless job × Sound (job_held job) layout
-  Holds (Broken l) = Faultless job × (length layout ≤ 64000) × FirstBreach (job_held job) layout l
+  abbrev pub Holds : Result (Unit {0}) CheckError → Type 0
+  Holds (Err (Refused o)) = FirstFault job o
+  Holds (Err LayoutTooLong) = Faultless job × (64000 < length layout)
+  Holds (Ok u) = Faultless job × Sound (job_held job) layout
+  Holds (Err (Broken l)) = Faultless job × (length layout ≤ 64000) × FirstBreach (job_held job) layout l
 
   pub held_accepted : Faultless job → AcceptedJob (job_held job)
   held_accepted f = read_accepted job (job_held job) (faultless_accepted job f)
 
   -- ---- the answer of the definitions holds
 
-  broken_holds : Faultless job → length layout ≤ 64000 → (l : ℕ) → judge (job_held job) layout ≡ broken_at l → Holds (Broken l)
+  broken_holds : Faultless job → length layout ≤ 64000 → (l : ℕ) → judge (job_held job) layout ≡ broken_at l → Holds (Err (Broken l))
   broken_holds f n l e = (
     f,
     n,

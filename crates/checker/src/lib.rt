@@ -1,7 +1,8 @@
 // Check: a layout text is sound for a job, or broken at its first broken line.
 #![tactic(auto)]
 
-ghost use Rattle.std.specs.Prelude.{◌≡◌, List, ℕ, ◌≤◌, length};
+ghost use Rattle.std.specs.Prelude.{◌≡◌, List, ℕ, ◌≤◌, length, Err};
+ghost use Rattle.checker.specs.declared.CheckError.TheVariants.{Refused};
 ghost use Rattle.board.specs.Job.{Job};
 ghost use Rattle.board.specs.Stored.{job_of};
 ghost use Rattle.jobfile.specs.Read.{read_job};
@@ -13,69 +14,71 @@ ghost use Rattle.checker.specs.Answers.{check_values, verdict_answer, document_v
 ghost use Rattle.checker.specs.RightVerdict.{RightVerdict};
 
 use board::{StoredJob, Track};
-use jobfile::Outcome;
+use jobfile::Refusal;
 use judging::LinesJudged;
-use layoutsteps::LayoutStep;
 use lines::Place;
 
-// The answer of check.
+// Why a layout doesn't pass the check: a refusal, or a broken line.
 #[derive(Clone, Copy)]
-pub enum CheckAnswer {
+pub enum CheckError {
     // refused as read does for the job
-    Refused(Outcome),
+    Refused(Refusal),
     // refusal 11: the layout text is above 64,000 bytes
     LayoutTooLong,
-    // the layout is sound
-    Passes,
     // broken at a line
     Broken(usize),
 }
 
-// The number of a refusal; 0 where nothing is refused.
-pub fn check_number(answer: CheckAnswer) -> usize
-    ensures { result ≡ (check_values answer).number }
-{
-    match answer {
-        CheckAnswer::Refused(outcome) => jobrules::number_of(outcome),
-        CheckAnswer::LayoutTooLong => 11,
-        CheckAnswer::Passes => 0,
-        CheckAnswer::Broken(_) => 0,
+impl From<Refusal> for CheckError {
+    ghost from_gives = { λ o e. e ≡ Refused o };
+
+    fn from(refusal: Refusal) -> CheckError {
+        CheckError::Refused(refusal)
     }
 }
 
-// Whether the layout is broken.
-pub fn is_broken(answer: CheckAnswer) -> bool
-    ensures { result ≡ (check_values answer).broken }
-{
-    match answer {
-        CheckAnswer::Refused(_) => false,
-        CheckAnswer::LayoutTooLong => false,
-        CheckAnswer::Passes => false,
-        CheckAnswer::Broken(_) => true,
+impl CheckError {
+    // The number of the refusal; 0 where nothing is refused.
+    pub fn number(self) -> usize
+        ensures { result ≡ (check_values (Err self)).number }
+    {
+        match self {
+            CheckError::Refused(refusal) => refusal.number(),
+            CheckError::LayoutTooLong => 11,
+            CheckError::Broken(_) => 0,
+        }
+    }
+
+    // Whether the layout is broken.
+    pub fn is_broken(self) -> bool
+        ensures { result ≡ (check_values (Err self)).broken }
+    {
+        match self {
+            CheckError::Broken(_) => true,
+            CheckError::Refused(_) | CheckError::LayoutTooLong => false,
+        }
+    }
+
+    // The line that the refusal names, or the broken line; 0 where none is named.
+    pub fn line(self) -> usize
+        ensures { result ≡ (check_values (Err self)).line }
+    {
+        match self {
+            CheckError::Refused(refusal) => refusal.line(),
+            CheckError::LayoutTooLong => 0,
+            CheckError::Broken(line) => line,
+        }
     }
 }
 
-// The line that a refusal or a broken layout names; 0 where none is named.
-pub fn check_line(answer: CheckAnswer) -> usize
-    ensures { result ≡ (check_values answer).line }
-{
-    match answer {
-        CheckAnswer::Refused(outcome) => jobrules::line_of(outcome),
-        CheckAnswer::LayoutTooLong => 0,
-        CheckAnswer::Passes => 0,
-        CheckAnswer::Broken(line) => line,
-    }
-}
-
-// The end of the text, where `line` is the line after the last.
-fn finish(m: LinesJudged, line: usize) -> CheckAnswer
+// The end of the text, where `line` is the line after the last: broken there, unless the closing line stands above.
+fn finish(m: LinesJudged, line: usize) -> Result<(), CheckError>
     ensures { (job : Job) (st : PassState) (stands : List ℕ) → KeepsState job st m stands → result ≡ verdict_answer (pass_end line st) }
 {
-    if m.stage == judging::FINISHED {
-        return CheckAnswer::Passes;
+    match m {
+        LinesJudged::Finished => Ok(()),
+        _ => Err(CheckError::Broken(m.closed(line))),
     }
-    let closed = judging::closed(m, line);
-    CheckAnswer::Broken(closed.breach)
 }
 
 // The verdict on a layout text, line by line, where the numbers of the job's nets and the net that precedes each net are worked out. The
@@ -83,56 +86,58 @@ fn finish(m: LinesJudged, line: usize) -> CheckAnswer
 fn judge_lines<'a>(
     job: &StoredJob,
     numbers: &'a [usize; 512],
-    before: &'a [usize; 512],
+    before: &'a [Option<usize>; 512],
     text: &[u8],
-) -> CheckAnswer
+) -> Result<(), CheckError>
     requires net_tables { NetTables job.now numbers.now before.now }
     requires text_len_bound { length text.now ≤ 64000 }
     ensures { result ≡ verdict_answer (judge (job_of job.now) text.now) }
 {
     let board = job.board;
-    let count = job.nnets;
+    let nets = &job.nets[..job.nnets];
+    let count = nets.len();
     let mut stands = [0usize; 512];
     let mut map = candidates::block_map(job, Track(0));
-    let mut m = judging::unbegun();
+    let mut m = LinesJudged::Unbegun;
     let mut place = Place::start();
-    loop {
-        let LayoutStep::Read(form, from, to, next) = layoutsteps::line_at(place, text) else {
-            return finish(m, place.passed + 1);
-        };
+    while let Some(read) = layoutsteps::line_at(place, text) {
         let line = place.passed + 1;
-        place = next;
-        let at = layoutsteps::find_slot(numbers, before, count, form);
-        let slot = at.slot;
-        let net = layoutsteps::net_found(at, job.nets[slot]);
-        let above = m.track.0;
-        let s = &text[from..to];
-        m = layoutsteps::take_line(board, count, net, &map.words, &mut stands, m, line, form, s);
-        if m.stage == judging::DECIDED {
-            return CheckAnswer::Broken(m.breach);
+        place = read.next;
+        let form = read.form;
+        let found = layoutsteps::find_net(nets, numbers, before, form);
+        let above = m.track();
+        let s = &text[read.from..read.to];
+        let led = layoutsteps::take_line(
+            board,
+            count,
+            found,
+            &map.words,
+            &mut stands,
+            m,
+            line,
+            form,
+            s,
+        );
+        m = led.map_err(CheckError::Broken)?;
+        let track = m.track();
+        if track.0 != above.0 {
+            map = candidates::block_map(job, track);
         }
-        if m.track.0 == above {
-            continue;
-        }
-        map = candidates::block_map(job, m.track);
     }
+    finish(m, place.passed + 1)
 }
 
 // Checks a layout text for a job: the job first, then the length of the text, then its lines.
-pub fn check(job: &[u8], layout: &[u8]) -> CheckAnswer
+pub fn check(job: &[u8], layout: &[u8]) -> Result<(), CheckError>
     ensures answer { result ≡ check_answer (read_job job.now) layout.now }
     ensures values { check_values result ≡ document_verdict (read_job job.now) layout.now }
     ensures right { RightVerdict job.now layout.now result }
 {
-    let answer = reader::read(job);
-    let outcome = answer.outcome;
-    if jobrules::number_of(outcome) != 0 {
-        return CheckAnswer::Refused(outcome);
-    }
+    let stored = reader::read(job)?;
     if 64000 < layout.len() {
-        return CheckAnswer::LayoutTooLong;
+        return Err(CheckError::LayoutTooLong);
     }
-    let numbers = judging::nets::numbers_of(&answer.job);
-    let before = candidates::preceding(&answer.job);
-    judge_lines(&answer.job, &numbers, &before, layout)
+    let numbers = judging::nets::numbers_of(&stored);
+    let before = candidates::preceding(&stored);
+    judge_lines(&stored, &numbers, &before, layout)
 }

@@ -5,7 +5,7 @@ use mathlib.Core.Bool.{Bool, true, false, true≢false}
 use mathlib.Core.List.{List}
 use native.Mathlib.Omega.{arith}
 use native.Mathlib.Numerals.{add-one}
-use lib.ListN.{length, get_or, set, length-set, length-replicate}
+use lib.ListN.{length, get_or, set, length-set}
 use lib.Seq.{get_or-set_same, get_or-set_other}
 use borrow.Author.Tests.{le-leb}
 use Rattle.lists.proofs.Cases.{by_test, and_both}
@@ -13,7 +13,7 @@ use Rattle.lists.proofs.Places.{set_each}
 use Rattle.candidates.specs.declared.Candidates.{Candidates}
 use Rattle.choice.specs.declared.Pick.{Pick}
 use Rattle.choice.specs.declared.Band.{Band}
-use Rattle.choice.specs.Filled.{lent, has_clear_top, sum_at, pick_to, in_band, band_to, pick_among}
+use Rattle.choice.specs.Filled.{slot, has_clear_top, pick_to, in_band, band_to, pick_among}
 use Rattle.choice.proofs.Picking.{stands_within, pick_suc_passed}
 
 -- no more are listed than the first i candidates, each has a place, and each is one of them
@@ -38,51 +38,51 @@ shape_listed b i h s =
 shape_passed : (b : Band) (i : ℕ) → BandShape b i → BandShape b (suc i)
 shape_passed b i s = record { count_range = omega arith; index_length = s.index_length; each = λ k l. omega (arith, s.each k l) }
 
-module _ (first last : List ℕ) (lo hi : ℕ) where
+module _ (c : Candidates) (lo hi : ℕ) (old : List ℕ) where
   abbrev band_before : ℕ → Band
-  band_before i = band_to first last lo hi i
+  band_before i = band_to c lo hi old i
 
   -- one candidate more
-  band_suc_listed : (i : ℕ) → in_band first last lo hi i ≡ true → band_before (suc i) ≡ band_with (band_before i) i
+  band_suc_listed : (i : ℕ) → in_band (slot c i) lo hi ≡ true → band_before (suc i) ≡ band_with (band_before i) i
   unfolding band_to
   band_suc_listed i t = rw t
 
-  band_suc_passed : (i : ℕ) → in_band first last lo hi i ≡ false → band_before (suc i) ≡ band_before i
+  band_suc_passed : (i : ℕ) → in_band (slot c i) lo hi ≡ false → band_before (suc i) ≡ band_before i
   unfolding band_to
   band_suc_passed i t = rw t
 
   -- as the loop has it: `has` is what `has_top` answered
-  pub band_listed : (i : ℕ) {has : Bool} {b d : Band} → has ≡ in_band first last lo hi i → b ≡ band_before i → has ≡ true → d ≡ band_with b i → d ≡ band_before (i + 1)
+  pub band_listed : (i : ℕ) {has : Bool} {b d : Band} → has ≡ in_band (slot c i) lo hi → b ≡ band_before i → has ≡ true → d ≡ band_with b i → d ≡ band_before (i + 1)
   band_listed i a h t f = rw (add-one i, band_suc_listed i (sym a ∙ t), ← h) f
 
-  pub band_passed : (i : ℕ) {has : Bool} {b d : Band} → has ≡ in_band first last lo hi i → b ≡ band_before i → has ≡ false → d ≡ b → d ≡ band_before (i + 1)
+  pub band_passed : (i : ℕ) {has : Bool} {b d : Band} → has ≡ in_band (slot c i) lo hi → b ≡ band_before i → has ≡ false → d ≡ b → d ≡ band_before (i + 1)
   band_passed i a h t f = rw (add-one i, band_suc_passed i (sym a ∙ t)) (f ∙ h)
 
-  pub band_shape : (i : ℕ) → i ≤ 512 → BandShape (band_before i) i
+  pub band_shape : length old ≡ 512 → (i : ℕ) → i ≤ 512 → BandShape (band_before i) i
   unfolding band_to
-  band_shape zero h = record { count_range = omega arith; index_length = length-replicate {A = ℕ} 512 0; each = λ k l. absurd (omega arith) }
-  band_shape (suc i) h =
-      let s = band_shape i (omega arith) in
-      by_test (in_band first last lo hi i)
+  band_shape e zero h = record { count_range = omega arith; index_length = e; each = λ k l. absurd (omega arith) }
+  band_shape e (suc i) h =
+      let s = band_shape e i (omega arith) in
+      by_test (in_band (slot c i) lo hi)
       (λ t. subst (λ b. BandShape b (suc i)) (sym (band_suc_listed i t)) (shape_listed (band_before i) i (omega arith) s))
       (λ t. subst (λ b. BandShape b (suc i)) (sym (band_suc_passed i t)) (shape_passed (band_before i) i s))
 
   -- so there is a place for one more
-  pub band_room : (i : ℕ) {b : Band} → i < 512 → b ≡ band_before i → (b.count < 512) × (length b.index ≡ 512)
-  band_room i h e =
-      let s = band_shape i (omega arith) in
+  pub band_room : length old ≡ 512 → (i : ℕ) {b : Band} → i < 512 → b ≡ band_before i → (b.count < 512) × (length b.index ≡ 512)
+  band_room size i h e =
+      let s = band_shape size i (omega arith) in
       rw e (omega arith, s.index_length)
 
   -- a candidate that can stand at a row of the band has a top in it
-  stands_in_band : (flags : List ℕ) (j i : ℕ) → lo ≤ j → j ≤ hi → has_clear_top first last flags j i ≡ true → in_band first last lo hi i ≡ true
+  stands_in_band : (flags : List ℕ) (j i : ℕ) → lo ≤ j → j ≤ hi → has_clear_top (slot c i) flags j i ≡ true → in_band (slot c i) lo hi ≡ true
   unfolding in_band
   stands_in_band flags j i l h s =
-      let w = stands_within first last flags j i s in
-      and_both _ _ (le-leb (get_or first i 0) hi (omega arith)) (le-leb lo (get_or last i 0) (omega arith))
+      let w = stands_within (slot c i) flags j i s in
+      and_both _ _ (le-leb (slot c i).tops.first.0 hi (omega arith)) (le-leb lo (slot c i).tops.last.0 (omega arith))
 
-  not_in_band : (flags : List ℕ) (j i : ℕ) → lo ≤ j → j ≤ hi → in_band first last lo hi i ≡ false → has_clear_top first last flags j i ≡ false
+  not_in_band : (flags : List ℕ) (j i : ℕ) → lo ≤ j → j ≤ hi → in_band (slot c i) lo hi ≡ false → has_clear_top (slot c i) flags j i ≡ false
   not_in_band flags j i l h t =
-      by_test (has_clear_top first last flags j i) (λ s. absurd (true≢false (sym (stands_in_band flags j i l h s) ∙ t))) (λ s. s)
+      by_test (has_clear_top (slot c i) flags j i) (λ s. absurd (true≢false (sym (stands_in_band flags j i l h s) ∙ t))) (λ s. s)
 
 module _ (c : Candidates) (flags best : List ℕ) (j : ℕ) where
   abbrev picked_among : List ℕ → ℕ → Pick
@@ -100,25 +100,18 @@ module _ (c : Candidates) (flags best : List ℕ) (j : ℕ) where
   among_listed b i h e =
       rw (add-one b.count, get_or-set_same b.index b.count i 0 h, among_set b.index b.count i b.count (omega arith), e)
 
-  -- how many candidates there are does not count, only how many are listed
-  pub among_lent : (m : ℕ) (index : List ℕ) (k : ℕ) →
-      pick_among (lent m c.net c.need c.weight c.first c.last) flags best j index k ≡ picked_among index k
-  unfolding pick_among sum_at
-  among_lent m index zero = refl
-  among_lent m index (suc k) = rw (among_lent m index k)
-
   -- at every row of the band
-  pub band_pick : (lo hi : ℕ) → lo ≤ j → j ≤ hi → (i : ℕ) → i ≤ 512 →
-      picked_among (band_to c.first c.last lo hi i).index (band_to c.first c.last lo hi i).count ≡ pick_to c flags best j i
+  pub band_pick : (lo hi : ℕ) (old : List ℕ) → length old ≡ 512 → lo ≤ j → j ≤ hi → (i : ℕ) → i ≤ 512 →
+      picked_among (band_to c lo hi old i).index (band_to c lo hi old i).count ≡ pick_to c flags best j i
   unfolding band_to pick_among pick_to
-  band_pick lo hi l h zero r = refl
-  band_pick lo hi l h (suc i) r =
-      let s = band_shape c.first c.last lo hi i (omega arith) in
-      let e = band_pick lo hi l h i (omega arith) in
-      by_test (in_band c.first c.last lo hi i)
+  band_pick lo hi old size l h zero r = refl
+  band_pick lo hi old size l h (suc i) r =
+      let s = band_shape c lo hi old size i (omega arith) in
+      let e = band_pick lo hi old size l h i (omega arith) in
+      by_test (in_band (slot c i) lo hi)
       (λ t.
-      subst (λ (b : Band). picked_among b.index b.count ≡ pick_to c flags best j (suc i)) (sym (band_suc_listed c.first c.last lo hi i t))
-      (among_listed (band_to c.first c.last lo hi i) i (omega arith) e))
+      subst (λ (b : Band). picked_among b.index b.count ≡ pick_to c flags best j (suc i)) (sym (band_suc_listed c lo hi old i t))
+      (among_listed (band_to c lo hi old i) i (omega arith) e))
       (λ t.
-      subst (λ (b : Band). picked_among b.index b.count ≡ pick_to c flags best j (suc i)) (sym (band_suc_passed c.first c.last lo hi i t))
-      (e ∙ sym (pick_suc_passed c flags best j i (not_in_band c.first c.last lo hi flags j i l h t))))
+      subst (λ (b : Band). picked_among b.index b.count ≡ pick_to c flags best j (suc i)) (sym (band_suc_passed c lo hi old i t))
+      (e ∙ sym (pick_suc_passed c flags best j i (not_in_band c lo hi old flags j i l h t))))

@@ -1,7 +1,7 @@
 -- Where numbers rise, the index of a net of the job is the place at which it stands. Assumes nothing.
 use Prim.Native.Nat.{ℕ, zero, suc, ◌+◌, ◌<◌}
 use mathlib.Core.Path.{◌≡◌, sym, ap, ◌∙◌}
-use mathlib.Core.Option.{some}
+use Rattle.std.specs.Prelude.{Some}
 use mathlib.Core.List.{List, [], ◌∷◌, nil≢cons, head-eq_of_cons-eq, tail-eq_of_cons-eq}
 use native.Mathlib.Omega.{arith}
 use lib.Dec.{eqb}
@@ -11,7 +11,7 @@ use borrow.Author.Tests.{eq-eqb, ne_eqb}
 use Rattle.lists.specs.Lists.{Each, EachPair}
 use Rattle.board.specs.declared.Net.{Net}
 use Rattle.board.specs.Job.{Job}
-use Rattle.candidates.specs.Placed.{index_from}
+use Rattle.std.specs.List.{position_from}
 use Rattle.choice.specs.TrackPlans.{index_of}
 
 -- the net at place x, and what follows it
@@ -26,15 +26,14 @@ drop_next (m ∷ l) zero e = tail-eq_of_cons-eq e
 drop_next (m ∷ l) (suc x) e = drop_next l x e
 
 index_place : (i : ℕ) (l : List Net) (x : ℕ) {n : Net} {ns : List Net} → EachPair (λ a b. a.number < b.number) l → drop x l ≡ n ∷ ns →
-    index_from (λ m. eqb m.number n.number) i l ≡ i + x
-unfolding index_from
+    position_from (λ m. eqb m.number n.number) i l ≡ Some (i + x)
 index_place i [] x r e = absurd (nil≢cons (sym (drop-nil x) ∙ e))
-index_place i (m ∷ l) zero {n} r e = rw (eq-eqb m.number n.number (ap (λ (k : Net). k.number) (head-eq_of_cons-eq e))) (omega arith)
+index_place i (m ∷ l) zero {n} r e = rw (eq-eqb m.number n.number (ap (λ (k : Net). k.number) (head-eq_of_cons-eq e))) (ap (λ (k : ℕ). Some k) (omega arith))
 index_place i (m ∷ l) (suc x) {n} r e =
     let h : m.number < n.number = Each-drop (λ b. m.number < b.number) l x e r.0 in
-    rw (ne_eqb m.number n.number (λ (z : m.number ≡ n.number). omega arith)) (index_place (suc i) l x r.1 e ∙ omega arith)
+    rw (ne_eqb m.number n.number (λ (z : m.number ≡ n.number). omega arith)) (index_place (i + 1) l x r.1 e ∙ ap (λ (k : ℕ). Some k) (omega arith))
 
 pub index_of_place : (job : Job) (x : ℕ) {n : Net} {ns : List Net} → EachPair (λ a b. a.number < b.number) job.nets →
-    drop x job.nets ≡ n ∷ ns → index_of job (some n) ≡ x
+    drop x job.nets ≡ n ∷ ns → index_of job (Some n) ≡ x
 unfolding index_of
-index_of_place job x r e = index_place 0 job.nets x r e ∙ omega arith
+index_of_place job x r e = rw (index_place 0 job.nets x r e) (omega arith)

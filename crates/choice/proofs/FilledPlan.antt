@@ -15,6 +15,7 @@ use Rattle.packing.proofs.ByRow.{best_last_lem}
 use Rattle.candidates.specs.declared.Candidates.{Candidates}
 use Rattle.candidates.specs.Gathered.{Gathered}
 use Rattle.choice.specs.declared.Pick.{Pick}
+use Rattle.std.specs.Prelude.{unwrap_or}
 use Rattle.choice.specs.TrackPlans.{no_choice, index_of, choices_of, track_plan_of}
 use Rattle.choice.specs.Filled.{pick_to, fill_from, filled_plan}
 use Rattle.choice.proofs.RowBest.{row_pick_best}
@@ -54,22 +55,22 @@ module _ (job : Job) (earlier : List ℕ) (t : ℕ) (c : Candidates) (flags : Li
         }
 
     row_below : (i : ℕ) (table choice : List ℕ) → suc i ≤ job.board.rows → FilledBelow (suc i) table choice →
-        (p : Pick) → p ≡ pick_to c flags table (suc i) c.count → FilledBelow i (set table (suc i) p.sum) (set choice i p.at)
+        (p : Pick) → p ≡ pick_to c flags table (suc i) c.count → FilledBelow i (set table (suc i) p.sum) (set choice i (unwrap_or p.at no_choice))
     unfolding choices_of
     row_below i table choice h b p q =
         let m = row_pick_best job earlier t c flags (suc i) table g rise (omega arith) h b.bests in
         let k : ℕ = job.board.rows - suc i in
         let e : job.board.rows - i ≡ suc k = omega arith in
         let row : suc i ≡ job.board.rows - k = omega arith in
-        let chosen : p.at ≡ index_of job (choice_at job earlier t (job.board.rows - k)) =
-        ap (λ (x : Pick). x.at) q ∙ m.1 ∙ ap (λ r. index_of job (choice_at job earlier t r)) row in
+        let chosen : unwrap_or p.at no_choice ≡ index_of job (choice_at job earlier t (job.board.rows - k)) =
+        ap (λ (x : Pick). unwrap_or x.at no_choice) q ∙ m.1 ∙ ap (λ r. index_of job (choice_at job earlier t r)) row in
         record {
           table_length = length-set table (suc i) p.sum ∙ b.table_length;
-          choice_length = length-set choice i p.at ∙ b.choice_length;
+          choice_length = length-set choice i (unwrap_or p.at no_choice) ∙ b.choice_length;
           bests = λ r a l.
               set_each (λ k x. x ≡ best job earlier t k) table (suc i) p.sum r (omega (arith, b.table_length)) (rw q m.0) (λ (d : r ≡ suc i → ⊥). b.bests r (omega (arith, d)) l);
           choices =
-              drop_set choice i p.at (omega (arith, b.choice_length)) ∙ ap₂ (λ x xs. x ∷ xs) chosen b.choices
+              drop_set choice i (unwrap_or p.at no_choice) (omega (arith, b.choice_length)) ∙ ap₂ (λ x xs. x ∷ xs) chosen b.choices
               ∙ sym (ap (λ n. choices_of job earlier t n ++ replicate (1024 - job.board.rows) no_choice) e);
         }
 

@@ -9,10 +9,11 @@ use Rattle.candidates.specs.declared.Candidates.{Candidates}
 use Rattle.choice.specs.declared.Pick.{Pick}
 use Rattle.choice.specs.declared.Band.{Band}
 use Rattle.choice.specs.declared.TrackPlan.{TrackPlan}
+use Rattle.std.specs.Prelude.{unwrap_or}
 use Rattle.choice.specs.TrackPlans.{no_choice}
-use Rattle.choice.specs.Filled.{lent, sum_at, pick_to, band_to, pick_among, fill_from, filled_plan, InBounds, PickInBounds, RowInBounds}
+use Rattle.choice.specs.Filled.{slot, sum_at, pick_to, band_to, pick_among, fill_from, filled_plan, InBounds, PickInBounds, RowInBounds}
 use Rattle.choice.proofs.Picking.{pick_low}
-use Rattle.choice.proofs.Bands.{BandShape, band_shape, among_lent, band_pick}
+use Rattle.choice.proofs.Bands.{BandShape, band_shape, band_pick}
 
 -- what holds before a turn, where rows 1 to j are still to be filled
 pub record RowsLeft (c : Candidates) (flags : List ℕ) (rows : ℕ) (best choice : List ℕ) (j : ℕ) : Type 0 where
@@ -27,19 +28,21 @@ pub record BandAt (c : Candidates) (band : Band) (lo j : ℕ) : Type 0 where
   pub hi : ℕ
   pub from : lo ≤ j
   pub to : j ≤ hi
-  pub is_band : band ≡ band_to c.first c.last lo hi c.count
+  pub old : List ℕ
+  pub size : length old ≡ 512
+  pub is_band : band ≡ band_to c lo hi old c.count
 
 -- as the loop has it: a band that is entered at row j, and one that j lies in already
-pub band_entered : {c : Candidates} {band b : Band} {start s : ℕ} (j : ℕ) → start ≡ s → band ≡ b → s ≤ j →
-    b ≡ band_to c.first c.last s j c.count → BandAt c band start j
-band_entered j e f l h = rw (e, f) (record { hi = j; from = l; to = omega arith; is_band = h })
+pub band_entered : {c : Candidates} {band b : Band} {start s : ℕ} (j : ℕ) (old : List ℕ) → length old ≡ 512 → start ≡ s → band ≡ b → s ≤ j →
+    b ≡ band_to c s j old c.count → BandAt c band start j
+band_entered j old size e f l h = rw (e, f) (record { hi = j; from = l; to = omega arith; old = old; size = size; is_band = h })
 
 pub band_kept : {c : Candidates} {band b : Band} {start s j : ℕ} → start ≡ s → band ≡ b → BandAt c b s j → BandAt c band start j
 band_kept e f a = rw (e, f) a
 
 -- a row above, while it is one of them
 pub band_above : {c : Candidates} {band : Band} {lo : ℕ} (j : ℕ) → lo ≤ j - 1 → BandAt c band lo j → BandAt c band lo (j - 1)
-band_above j l a = record { hi = a.hi; from = l; to = omega arith; is_band = a.is_band }
+band_above j l a = record { hi = a.hi; from = l; to = omega arith; old = a.old; size = a.size; is_band = a.is_band }
 
 module _ (c : Candidates) (flags : List ℕ) (rows : ℕ) (b : InBounds c flags rows) where
   abbrev Now : List ℕ → List ℕ → ℕ → Type 0
@@ -57,16 +60,15 @@ module _ (c : Candidates) (flags : List ℕ) (rows : ℕ) (b : InBounds c flags 
       }
 
   -- the bound of a sum at row j
-  sum_low : (best choice : List ℕ) (j : ℕ) → Now best choice j → (i : ℕ) → i < c.count → j ≤ get_or c.last i 0 →
-      get_or c.weight i 0 + get_or best (j + get_or c.need i 0) 0 ≤ 4096 * (rows + 1 - j)
+  sum_low : (best choice : List ℕ) (j : ℕ) → Now best choice j → (i : ℕ) → i < c.count → j ≤ (slot c i).tops.last.0 →
+      (slot c i).tops.weight + get_or best (j + (slot c i).tops.need) 0 ≤ 4096 * (rows + 1 - j)
   sum_low best choice j g i h l =
       let k = b.slots i h in
-      omega (arith, g.low (j + get_or c.need i 0) (omega arith) (omega arith))
+      omega (arith, g.low (j + (slot c i).tops.need) (omega arith) (omega arith))
 
   -- one of the candidates at row j
-  rows_left_candidate : (best choice : List ℕ) (j m i : ℕ) → 0 < j → Now best choice j → i < c.count →
-      PickInBounds (lent m c.net c.need c.weight c.first c.last) flags best j i
-  rows_left_candidate best choice j m i z g h =
+  rows_left_candidate : (best choice : List ℕ) (j i : ℕ) → 0 < j → Now best choice j → i < c.count → PickInBounds c flags best j i
+  rows_left_candidate best choice j i z g h =
       record {
         slot_range = omega (arith, b.count_range);
         flags_range = omega (arith, b.flags_range, b.count_range);
@@ -74,26 +76,33 @@ module _ (c : Candidates) (flags : List ℕ) (rows : ℕ) (b : InBounds c flags 
         low = λ l. omega (arith, sum_low best choice j g i h l);
       }
 
+  -- the listed candidates in range
+  listed_shape : (j lo : ℕ) (band : Band) → BandAt c band lo j → BandShape band c.count
+  listed_shape j lo band a = subst (λ x. BandShape x c.count) (sym a.is_band) (band_shape c lo a.hi a.old a.size c.count b.count_range)
+
+  pub band_size : (j lo : ℕ) (band : Band) → BandAt c band lo j → length band.index ≡ 512
+  band_size j lo band a = (listed_shape j lo band a).index_length
+
   pub rows_left_row : (best choice : List ℕ) (j lo : ℕ) (band : Band) → 0 < j → Now best choice j → BandAt c band lo j →
-      RowInBounds (lent band.count c.net c.need c.weight c.first c.last) flags best j band.index
+      RowInBounds c flags best j band
   rows_left_row best choice j lo band h g a =
-      let s : BandShape band c.count = subst (λ x. BandShape x c.count) (sym a.is_band) (band_shape c.first c.last lo a.hi c.count b.count_range) in
+      let s = listed_shape j lo band a in
       record {
         row_range = omega arith;
         count_range = omega arith;
-        listed = λ k r. rows_left_candidate best choice j band.count (get_or band.index k 0) h g (s.each k r);
+        listed = λ k r. rows_left_candidate best choice j (get_or band.index k 0) h g (s.each k r);
       }
 
   -- the pick over the listed candidates is the pick over all
   pub band_row : (best : List ℕ) (j lo : ℕ) (band : Band) (p : Pick) → BandAt c band lo j →
-      p ≡ pick_among (lent band.count c.net c.need c.weight c.first c.last) flags best j band.index band.count →
+      p ≡ pick_among c flags best j band.index band.count →
       p ≡ pick_to c flags best j c.count
   band_row best j lo band p a e =
-      e ∙ among_lent c flags best j band.count band.index band.count ∙ ap (λ (x : Band). pick_among c flags best j x.index x.count) a.is_band
-      ∙ band_pick c flags best j lo a.hi a.from a.to c.count b.count_range
+      e ∙ ap (λ (x : Band). pick_among c flags best j x.index x.count) a.is_band
+      ∙ band_pick c flags best j lo a.hi a.old a.size a.from a.to c.count b.count_range
 
   row_again : (best choice : List ℕ) (i : ℕ) (p : Pick) → Now best choice (suc i) → p ≡ pick_to c flags best (suc i) c.count →
-      Now (set best (suc i) p.sum) (set choice i p.at) i
+      Now (set best (suc i) p.sum) (set choice i (unwrap_or p.at no_choice)) i
   unfolding fill_from sum_at
   row_again best choice i p g q =
       let n = g.low (suc i + 1) (omega arith) (omega arith) in
@@ -101,14 +110,14 @@ module _ (c : Candidates) (flags : List ℕ) (rows : ℕ) (b : InBounds c flags 
       record {
         in_range = omega arith;
         best_length = length-set best (suc i) p.sum ∙ g.best_length;
-        choice_length = length-set choice i p.at ∙ g.choice_length;
+        choice_length = length-set choice i (unwrap_or p.at no_choice) ∙ g.choice_length;
         low = λ r a h.
             set_each (λ k x. x ≤ 4096 * (rows + 1 - k)) best (suc i) p.sum r (omega (arith, g.best_length)) (rw q l) (λ (d : r ≡ suc i → ⊥). g.low r (omega (arith, d)) h);
         same = rw q g.same;
       }
 
   pub rows_left_again : (best choice : List ℕ) (j : ℕ) (p : Pick) → 0 < j → Now best choice j → p ≡ pick_to c flags best j c.count →
-      Now (set best j p.sum) (set choice (j - 1) p.at) (j - 1)
+      Now (set best j p.sum) (set choice (j - 1) (unwrap_or p.at no_choice)) (j - 1)
   rows_left_again best choice zero p h g e = absurd (omega arith)
   rows_left_again best choice (suc i) p h g e =
       let e' : suc i - 1 ≡ i = omega arith in

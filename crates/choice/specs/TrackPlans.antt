@@ -1,9 +1,8 @@
 -- The plan of a track by value: best(1), and for each row the index of the net chosen there.
-use Rattle.std.specs.Prelude.{ℕ, zero, suc, ◌-◌, List, [], ◌∷◌, ◌++◌, eqb, replicate}
-use Rattle.std.proofs.Math.Option.{Option, none, some}
+use Rattle.std.specs.Prelude.{ℕ, zero, suc, ◌-◌, List, [], ◌∷◌, ◌++◌, eqb, replicate, Option, None, Some, unwrap_or}
 use Rattle.board.specs.declared.Net.{Net}
 use Rattle.board.specs.Job.{Job}
-use Rattle.candidates.specs.Placed.{index_from}
+use Rattle.std.specs.List.{position_from}
 use Rattle.packing.specs.Best.{best}
 use Rattle.packing.specs.Walk.{choice_at}
 use Rattle.choice.specs.declared.TrackPlan.{TrackPlan}
@@ -14,8 +13,8 @@ no_choice = 512
 
 -- the index of a chosen net, by its number; no_choice where none is chosen
 unfoldable pub index_of : Job → Option Net → ℕ
-index_of job none = no_choice
-index_of job (some n) = index_from (λ m. eqb m.number n.number) 0 job.nets
+index_of job None = no_choice
+index_of job (Some n) = unwrap_or (position_from (λ m. eqb m.number n.number) 0 job.nets) no_choice
 
 -- the choices of the last k rows, row H − k + 1 first
 unfoldable pub choices_of : Job → List ℕ → ℕ → ℕ → List ℕ

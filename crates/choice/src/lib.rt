@@ -2,10 +2,10 @@
 #![tactic(auto)]
 
 ghost use Rattle.std.specs.Prelude.{◌≡◌, ◌+◌, ◌*◌, ◌≤◌, ◌<◌, length};
-ghost use Rattle.choice.specs.Filled.{lent, has_clear_top, better, in_band, band_to, pick_among, filled_plan, InBounds, RowInBounds};
+ghost use Rattle.choice.specs.Filled.{has_clear_top, better, in_band, band_to, pick_among, filled_plan, InBounds, RowInBounds};
 
 use board::Row;
-use candidates::Candidates;
+use candidates::{Candidate, Candidates};
 
 // The plan of a track holds a choice for each of its rows: the index of the net that is taken with its top at that row (row j at
 // place j − 1), or 512 for none; and the track's sum, best(1).
@@ -15,14 +15,14 @@ pub struct TrackPlan {
     pub sum: usize,
 }
 
-// The best sum so far at a row, and the index of the net that first gave it, or 512 where going on to the next row is as good.
+// The best sum so far at a row, and the index of the net that first gave it; None where going on to the next row is as good.
 #[derive(Clone, Copy)]
 pub struct Pick {
     pub sum: usize,
-    pub at: usize,
+    pub at: Option<usize>,
 }
 
-// The candidates that have a top in a band of rows: how many, and their indexes from place 0 on, rising.
+// The candidates that have a top in a band of rows: how many, and their slots from place 0 on, rising.
 #[derive(Clone, Copy)]
 pub struct Band {
     pub count: usize,
@@ -30,67 +30,49 @@ pub struct Band {
 }
 
 // The pick after one more net: it takes over only where its sum is more, so that of equal nets the first in the list is chosen.
+#[tactic(auto, unfolding(crate::specs::Filled::better))]
 fn take_better(p: Pick, sum: usize, net: usize) -> Pick
     ensures { result ≡ better p sum net }
 {
     if p.sum < sum {
-        return Pick { sum, at: net };
+        Pick { sum, at: Some(net) }
+    } else {
+        p
     }
-    p
 }
 
-// Whether candidate i can stand with its top at a row. The flags are read at its own tops only: outside them they hold anything.
-fn has_clear_top<'a>(
-    first: &'a [usize; 512],
-    last: &'a [usize; 512],
-    flags: &[u8],
-    i: usize,
-    row: Row,
-) -> bool
-    requires { (i < 512) × (1 ≤ row.0) × (row.0 ≤ 1024) × (i * 1024 + 1024 ≤ length flags.now) }
-    ensures { result ≡ has_clear_top first.now last.now flags.now row.0 i }
+// Whether candidate x, which has part i of the flags, can stand with its top at a row. The flags are read at its own tops only: outside
+// them they hold anything.
+#[tactic(auto, unfolding(crate::specs::Filled::has_clear_top))]
+fn has_clear_top(x: &Candidate, flags: &[u8], i: usize, row: Row) -> bool
+    requires { (1 ≤ row.0) × (row.0 ≤ 1024) × (i < 512) × (i * 1024 + 1024 ≤ length flags.now) }
+    ensures { result ≡ has_clear_top x.now flags.now row.0 i }
 {
     let j = row.0;
     // one test of both ends, since either alone is as likely to hold as not
-    let inside = (first[i] <= j) & (j <= last[i]);
-    if inside {
-        return flags[i * 1024 + (j - 1)] == 1;
-    }
-    false
+    let inside = (x.tops.first.0 <= j) & (j <= x.tops.last.0);
+    inside && flags[i * 1024 + (j - 1)] == 1
 }
 
-// Whether candidate i has a top in rows lo to hi.
-fn has_top<'a>(first: &'a [usize; 512], last: &'a [usize; 512], i: usize, lo: Row, hi: Row) -> bool
-    requires { i < 512 }
-    ensures { result ≡ in_band first.now last.now lo.0 hi.0 i }
+// Whether a candidate has a top in rows lo to hi.
+#[tactic(auto, unfolding(crate::specs::Filled::in_band))]
+fn has_top(x: &Candidate, lo: Row, hi: Row) -> bool
+    ensures { result ≡ in_band x.now lo.0 hi.0 }
 {
-    let start = lo.0;
-    let end = hi.0;
-    (first[i] <= end) & (start <= last[i])
+    (x.tops.first.0 <= hi.0) & (lo.0 <= x.tops.last.0)
 }
 
-// The candidates that have a top in rows lo to hi.
-fn band_of<'a>(
-    count: usize,
-    first: &'a [usize; 512],
-    last: &'a [usize; 512],
-    lo: Row,
-    hi: Row,
-) -> Band
-    requires { count ≤ 512 }
-    ensures { result ≡ band_to first.now last.now lo.0 hi.0 count }
+// Lists the candidates that have a top in rows lo to hi, over those of another band.
+fn list_band(c: &Candidates, lo: Row, hi: Row, band: &mut Band)
+    requires { c.now.count ≤ 512 }
+    ensures { band.new ≡ band_to c.now lo.0 hi.0 band.old.index c.now.count }
 {
-    let mut index = [0usize; 512];
-    let mut listed = 0;
-    for i in 0..count {
-        if has_top(first, last, i, lo, hi) {
-            index[listed] = i;
-            listed += 1;
+    band.count = 0;
+    for (i, x) in c.slots[..c.count].iter().enumerate() {
+        if has_top(x, lo, hi) {
+            band.index[band.count] = i;
+            band.count += 1;
         }
-    }
-    Band {
-        count: listed,
-        index,
     }
 }
 
@@ -103,32 +85,21 @@ fn band_start(row: Row) -> Row
     Row(at / 64 * 64 + 1)
 }
 
-// best(j) and the choice for row j, in one pass over the listed candidates; best[r] is best(r) for the rows r below j. The arrays of
-// the candidates are lent one by one, with the number of those listed in place of their count.
-fn row_pick<'a>(
-    listed: usize,
-    index: &'a [usize; 512],
-    net: &'a [usize; 512],
-    need: &'a [usize; 512],
-    weight: &'a [usize; 512],
-    first: &'a [usize; 512],
-    last: &'a [usize; 512],
-    flags: &[u8],
-    best: &[usize; 1026],
-    row: Row,
-) -> Pick
-    requires { RowInBounds (lent listed net.now need.now weight.now first.now last.now) flags.now best.now row.0 index.now }
-    ensures { result ≡ pick_among (lent listed net.now need.now weight.now first.now last.now) flags.now best.now row.0 index.now listed }
+// best(j) and the choice for row j, in one pass over the candidates listed in a band; best[r] is best(r) for the rows r below j.
+fn row_pick(c: &Candidates, band: &Band, flags: &[u8], best: &[usize; 1026], row: Row) -> Pick
+    requires { RowInBounds c.now flags.now best.now row.0 band.now }
+    ensures { result ≡ pick_among c.now flags.now best.now row.0 band.now.index band.now.count }
 {
     let j = row.0;
-    let next = best[j + 1];
-    let mut p = Pick { sum: next, at: 512 };
-    for k in 0..listed {
-        let i = index[k];
-        if has_clear_top(first, last, flags, i, row) {
-            let value = weight[i];
-            let sum = value + best[j + need[i]];
-            p = take_better(p, sum, net[i]);
+    let mut p = Pick {
+        sum: best[j + 1],
+        at: None,
+    };
+    for i in &band.index[..band.count] {
+        let x = &c.slots[*i];
+        if has_clear_top(x, flags, *i, row) {
+            let sum = x.tops.weight + best[j + x.tops.need];
+            p = take_better(p, sum, x.net);
         }
     }
     p
@@ -136,40 +107,29 @@ fn row_pick<'a>(
 
 // The plan of a track from its candidates: best(j) and the choice for each row j, from the last row up. Where j enters a band of
 // rows, the candidates that have a top in it are listed, so that no row looks at the others; `start` is the first row of that band.
-pub fn fill(c: Candidates, flags: &[u8], rows: usize) -> TrackPlan
-    requires { InBounds c flags.now rows }
-    ensures { result ≡ filled_plan c flags.now rows }
+pub fn fill(c: &Candidates, flags: &[u8], rows: usize) -> TrackPlan
+    requires { InBounds c.now flags.now rows }
+    ensures { result ≡ filled_plan c.now flags.now rows }
 {
-    let mut best = [0usize; 1026];
-    let mut choice = [512usize; 1024];
+    let mut best = [0; 1026];
+    let mut choice = [512; 1024];
     let mut start = rows + 1;
     let mut listed = Band {
         count: 0,
-        index: [0usize; 512],
+        index: [0; 512],
     };
-    let mut j = rows;
-    while 0 < j {
+    for j in (1..rows + 1).rev() {
         if j < start {
             let from = band_start(Row(j));
-            listed = band_of(c.count, &c.first, &c.last, from, Row(j));
+            list_band(c, from, Row(j), &mut listed);
             start = from.0;
         }
-        let p = row_pick(
-            listed.count,
-            &listed.index,
-            &c.net,
-            &c.need,
-            &c.weight,
-            &c.first,
-            &c.last,
-            flags,
-            &best,
-            Row(j),
-        );
+        let p = row_pick(c, &listed, flags, &best, Row(j));
         best[j] = p.sum;
-        choice[j - 1] = p.at;
-        j -= 1;
+        choice[j - 1] = p.at.unwrap_or(512);
     }
-    let sum = best[1];
-    TrackPlan { choice, sum }
+    TrackPlan {
+        choice,
+        sum: best[1],
+    }
 }

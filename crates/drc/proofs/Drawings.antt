@@ -2,7 +2,7 @@
 use Prim.Native.Nat.{ℕ, ◌*◌, ◌-◌, ◌≤◌, ◌<◌}
 use mathlib.Core.Path.{◌≡◌, refl, sym, ap, ap₂, ◌∙◌}
 use mathlib.Core.Bool.{true, ◌&&◌}
-use mathlib.Core.Option.{some, none-ne-some, some-injective}
+use Rattle.std.specs.Prelude.{Some}
 use mathlib.Core.List.{List, [], ◌∷◌}
 use native.Mathlib.Omega.{arith}
 use lib.Dec.{leb}
@@ -26,6 +26,7 @@ use Rattle.layout.proofs.RoundTrip.{only_some}
 use Rattle.sound.proofs.Nets.{net_some, net_of}
 use Rattle.drc.specs.Breach.{Draws}
 use Rattle.drc.specs.Covers.{same_points, is_on_board, drawn_of, drawn_from, drawn_by, track_drawn, covers_of}
+use Rattle.std.proofs.lemmas.Option.{none-some, same_Some}
 
 pub same_points_true : (ps qs : List Point) → same_points ps qs ≡ true → ps ≡ qs
 unfolding same_points
@@ -47,7 +48,7 @@ placement_net t n ps = by_option (first_in (wire_column t) ps) (λ e. rw (e, pla
 
 -- ---- what is found is drawn
 module _ (job : Job) (t : ℕ) (on_track : 1 ≤ t) (on_board : t ≤ job.board.tracks) where
-  net_drawn : (w : Wire) (n : Net) (p : Placement) → net_numbered job w.number ≡ some n → drawn_of job.board t w.points n ≡ some p → Draws job t w p
+  net_drawn : (w : Wire) (n : Net) (p : Placement) → net_numbered job w.number ≡ Some n → drawn_of job.board t w.points n ≡ Some p → Draws job t w p
   unfolding drawn_of is_on_board wire_of
   net_drawn w n p o h =
       let f = net_some job w.number n o in
@@ -72,19 +73,19 @@ module _ (job : Job) (t : ℕ) (on_track : 1 ≤ t) (on_board : t ≤ job.board.
       } in
       rw x.1 at draws
 
-  pub drawn_some : (w : Wire) (p : Placement) → drawn_by job t w ≡ some p → Draws job t w p
+  pub drawn_some : (w : Wire) (p : Placement) → drawn_by job t w ≡ Some p → Draws job t w p
   unfolding drawn_by drawn_from
   drawn_some w p h =
       by_option (net_numbered job w.number)
-      (λ e. absurd (none-ne-some p (rw e at h)))
+      (λ e. absurd (none-some p (rw e at h)))
       (λ n e. net_drawn w n p e (rw e at h))
 
 -- ---- what is drawn is found
 module _ (job : Job) (t : ℕ) (rise : EachPair (λ a b. a.number < b.number) job.nets) where
-  pub drawn_of_lem : (w : Wire) (p : Placement) → Draws job t w p → drawn_by job t w ≡ some p
+  pub drawn_of_lem : (w : Wire) (p : Placement) → Draws job t w p → drawn_by job t w ≡ Some p
   unfolding drawn_by drawn_from drawn_of wire_of is_on_board
   drawn_of_lem w p d =
-      let net : net_numbered job w.number ≡ some p.net = ap (λ (v : Wire). net_numbered job v.number) d.drawn ∙ net_of job rise p.net d.of_job in
+      let net : net_numbered job w.number ≡ Some p.net = ap (λ (v : Wire). net_numbered job v.number) d.drawn ∙ net_of job rise p.net d.of_job in
       let points : w.points ≡ points_on job.board t p = ap (λ (v : Wire). v.points) d.drawn in
       let back = placement_back job t d.from_track p (record { over_upper = d.over_upper; under_lower = d.under_lower }) in
       let board : is_on_board job.board p ≡ true =
@@ -107,15 +108,15 @@ module _ (job : Job) where
   pub same_track : (t u : ℕ) (w : Wire) (p q : Placement) → Draws job t w p → Draws job u w q → u ≡ t
   same_track t u w p q d g = sym (track_drawn_lem u w q g) ∙ track_drawn_lem t w p d
 
-  pub covers_some : (w : Wire) (p : Placement) → covers_of job w ≡ some p → Draws job (track_drawn w.points) w p
+  pub covers_some : (w : Wire) (p : Placement) → covers_of job w ≡ Some p → Draws job (track_drawn w.points) w p
   unfolding covers_of
   covers_some w p h =
       let t = track_drawn w.points in
       by_test (leb 1 t && leb t job.board.tracks)
       (λ e. let s = and_split (leb 1 t) (leb t job.board.tracks) e in drawn_some job t (leb-true 1 t s.0) (leb-true t job.board.tracks s.1) w p (rw e at h))
-      (λ e. absurd (none-ne-some p (rw e at h)))
+      (λ e. absurd (none-some p (rw e at h)))
 
-  pub covers_of_lem : EachPair (λ a b. a.number < b.number) job.nets → (t : ℕ) (w : Wire) (p : Placement) → Draws job t w p → covers_of job w ≡ some p
+  pub covers_of_lem : EachPair (λ a b. a.number < b.number) job.nets → (t : ℕ) (w : Wire) (p : Placement) → Draws job t w p → covers_of job w ≡ Some p
   unfolding covers_of
   covers_of_lem rise t w p d =
       rw (track_drawn_lem t w p d, le-leb 1 t d.from_track, le-leb t job.board.tracks d.to_track) (drawn_of_lem job t rise w p d)
@@ -123,4 +124,4 @@ module _ (job : Job) where
   -- a wire draws one placement, on one track
   pub drawing_once : EachPair (λ a b. a.number < b.number) job.nets → (t u : ℕ) (w : Wire) (p q : Placement) → Draws job t w p → Draws job u w q → (t ≡ u) × (p ≡ q)
   drawing_once rise t u w p q d g =
-      (same_track u t w q p g d, some-injective p q (sym (covers_of_lem rise t w p d) ∙ covers_of_lem rise u w q g))
+      (same_track u t w q p g d, same_Some p q (sym (covers_of_lem rise t w p d) ∙ covers_of_lem rise u w q g))

@@ -2,7 +2,7 @@
 use Prim.Native.Nat.{ℕ, suc, ◌<◌}
 use mathlib.Core.Path.{◌≡◌, refl}
 use mathlib.Core.Logic.{◌↔◌, ⊎_elim}
-use mathlib.Core.Option.{Option, none, some}
+use Rattle.std.specs.Prelude.{Option, None, Some}
 use mathlib.Core.List.{List, [], ◌∷◌, Memᴰ}
 use Rattle.lists.specs.Lists.{EachPair}
 use Rattle.lists.proofs.Cases.{by_test}
@@ -54,11 +54,11 @@ module _ (job : Job) (rise : EachPair (λ a b. a.number < b.number) job.nets) wh
   listed_from : (n l : ℕ) (a : Above) (ls : List (Option Line)) → Memᴰ l (broken_from job n a ls) → BreachFrom job n a ls l
   unfolding broken_from
   listed_from n l a [] m = listed_end job n l a m
-  listed_from n l a (none ∷ ls) m = rw (one_line m) ill_formed
-  listed_from n l a (some x ∷ ls) m =
+  listed_from n l a (None ∷ ls) m = rw (one_line m) ill_formed
+  listed_from n l a (Some x ∷ ls) m =
       by_test (is_in_place job a x)
       (λ s.
-      let below : Memᴰ l (broken_from job (suc n) (with_line a x) ls) → BreachFrom job n a (some x ∷ ls) l =
+      let below : Memᴰ l (broken_from job (suc n) (with_line a x) ls) → BreachFrom job n a (Some x ∷ ls) l =
       λ i. further_down (can_stand_of job a x s) (listed_from (suc n) l (with_line a x) ls i) in
       by_test (keeps_rules job a x ls)
       (λ k. below (rw (s, k) at m))

@@ -2,7 +2,7 @@
 use Prim.Native.Nat.{ℕ, suc, ◌≤◌, ◌<◌}
 use mathlib.Core.Path.{◌≡◌, refl}
 use mathlib.Core.Bool.{true, ◌&&◌}
-use mathlib.Core.Option.{Option, none, some}
+use Rattle.std.specs.Prelude.{Option, None, Some}
 use mathlib.Core.List.{List, [], ◌∷◌}
 use native.Mathlib.Omega.{arith}
 use Rattle.lists.specs.Lists.{EachPair}
@@ -58,7 +58,7 @@ end_sound n behind_layout h (stops_early f) = f refl
 
 module _ (job : Job) (rise : EachPair (λ a b. a.number < b.number) job.nets) where
   -- past a line that passes, a broken line is one of the lines below it
-  passed_by : {n : ℕ} {a : Above} {x : Line} {ls : List (Option Line)} {l : ℕ} → BreachFrom job n a (some x ∷ ls) l →
+  passed_by : {n : ℕ} {a : Above} {x : Line} {ls : List (Option Line)} {l : ℕ} → BreachFrom job n a (Some x ∷ ls) l →
       is_in_place job a x ≡ true → keeps_rules job a x ls ≡ true → BreachFrom job (suc n) (with_line a x) ls l
   passed_by (at_line b) s k = absurd (passes_line job rise s k b)
   passed_by (further_down c b) s k = b
@@ -67,8 +67,8 @@ module _ (job : Job) (rise : EachPair (λ a b. a.number < b.number) job.nets) wh
   from_breach : (n : ℕ) (a : Above) (ls : List (Option Line)) (l : ℕ) → judge_from job n a ls ≡ broken_at l → BreachFrom job n a ls l
   unfolding judge_from
   from_breach n a [] l h = end_breach job n a l h
-  from_breach n a (none ∷ ls) l h = rw (← same_line n l h) ill_formed
-  from_breach n a (some x ∷ ls) l h =
+  from_breach n a (None ∷ ls) l h = rw (← same_line n l h) ill_formed
+  from_breach n a (Some x ∷ ls) l h =
       by_test (is_in_place job a x && keeps_rules job a x ls)
       (λ e. further_down (can_stand_of job a x (and_split (is_in_place job a x) (keeps_rules job a x ls) e).0) (from_breach (suc n) (with_line a x) ls l (rw e at h)))
       (λ e. rw (← same_line n l (rw e at h))
@@ -79,8 +79,8 @@ module _ (job : Job) (rise : EachPair (λ a b. a.number < b.number) job.nets) wh
   from_first : (n : ℕ) (a : Above) (ls : List (Option Line)) (l m : ℕ) → judge_from job n a ls ≡ broken_at l → BreachFrom job n a ls m → l ≤ m
   unfolding judge_from
   from_first n a [] l m h b = omega (arith, end_first n a l h, breach_from b)
-  from_first n a (none ∷ ls) l m h b = omega (arith, same_line n l h, breach_from b)
-  from_first n a (some x ∷ ls) l m h b =
+  from_first n a (None ∷ ls) l m h b = omega (arith, same_line n l h, breach_from b)
+  from_first n a (Some x ∷ ls) l m h b =
       by_test (is_in_place job a x && keeps_rules job a x ls)
       (λ e.
       let s = and_split (is_in_place job a x) (keeps_rules job a x ls) e in
@@ -90,8 +90,8 @@ module _ (job : Job) (rise : EachPair (λ a b. a.number < b.number) job.nets) wh
   from_sound : (n : ℕ) (a : Above) (ls : List (Option Line)) (m : ℕ) → judge_from job n a ls ≡ sound_text → BreachFrom job n a ls m → ⊥
   unfolding judge_from
   from_sound n a [] m h b = end_sound n a h b
-  from_sound n a (none ∷ ls) m h b = not_sound n h
-  from_sound n a (some x ∷ ls) m h b =
+  from_sound n a (None ∷ ls) m h b = not_sound n h
+  from_sound n a (Some x ∷ ls) m h b =
       by_test (is_in_place job a x && keeps_rules job a x ls)
       (λ e.
       let s = and_split (is_in_place job a x) (keeps_rules job a x ls) e in

@@ -2,7 +2,7 @@
 use Prim.Native.Nat.{ℕ, suc, ◌+◌, ◌≤◌}
 use mathlib.Core.Path.{◌≡◌, refl, ap}
 use mathlib.Core.Bool.{true, false, ◌&&◌, true≢false, false≢true}
-use mathlib.Core.Option.{Option, none, some}
+use Rattle.std.specs.Prelude.{Option, None, Some}
 use mathlib.Core.List.{List, [], ◌∷◌, ◌++◌, append_assoc, append-nil}
 use native.Mathlib.Omega.{arith}
 use lib.Dec.{eqb, leb}
@@ -38,7 +38,7 @@ module _ (job : Job) where
     kept : keeps_rules job a x ls ≡ true
     rest : judge_from job (suc n) (with_line a x) ls ≡ sound_text
 
-  passed : (n : ℕ) (a : Above) (x : Line) (ls : List (Option Line)) → judge_from job n a (some x ∷ ls) ≡ sound_text → PassedLine n a x ls
+  passed : (n : ℕ) (a : Above) (x : Line) (ls : List (Option Line)) → judge_from job n a (Some x ∷ ls) ≡ sound_text → PassedLine n a x ls
   unfolding judge_from
   passed n a x ls h =
       by_test (is_in_place job a x && keeps_rules job a x ls)
@@ -76,14 +76,14 @@ module _ (job : Job) where
     before_tracks : t ≡ 0 → vs ≡ []
 
   closes_last : (t : ℕ) (earlier : List ℕ) (ws : List Wire) (ns : List ℕ) (ls : List (Option Line)) → ls ≡ [] → t ≡ job.board.tracks →
-      all_of (is_on (numbers_above earlier ws ns)) job.nets ≡ true → Remaining t earlier ws ns (some closes ∷ ls)
+      all_of (is_on (numbers_above earlier ws ns)) job.nets ≡ true → Remaining t earlier ws ns (Some closes ∷ ls)
   unfolding loose_then wires_then tracks_then track_numbers
   closes_last t earlier ws ns ls e k c =
       record {
         vs = [];
         trs = [];
         ks = [];
-        lines_below = ap (λ (l : List (Option Line)). some closes ∷ l) e;
+        lines_below = ap (λ (l : List (Option Line)). Some closes ∷ l) e;
         wires = tt;
         tracks = k;
         looses = tt;
@@ -95,7 +95,7 @@ module _ (job : Job) where
       }
 
   loose_above : (t : ℕ) (earlier : List ℕ) (ws : List Wire) (ns : List ℕ) (j : ℕ) (ls : List (Option Line)) →
-      LooseKept job (earlier ++ wire_numbers ws) ns j → Remaining t earlier ws (ns ++ (j ∷ [])) ls → Remaining t earlier ws ns (some (loose j) ∷ ls)
+      LooseKept job (earlier ++ wire_numbers ws) ns j → Remaining t earlier ws (ns ++ (j ∷ [])) ls → Remaining t earlier ws ns (Some (loose j) ∷ ls)
   unfolding loose_then wires_then tracks_then track_numbers
   loose_above t earlier ws ns j ls k r =
       let e = r.behind_loose (some_loose ns j) in
@@ -106,7 +106,7 @@ module _ (job : Job) where
         vs = r.vs;
         trs = r.trs;
         ks = j ∷ r.ks;
-        lines_below = rw (e.0, e.1) (ap (λ (l : List (Option Line)). some (loose j) ∷ l) after);
+        lines_below = rw (e.0, e.1) (ap (λ (l : List (Option Line)). Some (loose j) ∷ l) after);
         wires = r.wires;
         tracks = r.tracks;
         looses = (rw on k, r.looses);
@@ -116,7 +116,7 @@ module _ (job : Job) where
       }
 
   wire_above : (t : ℕ) (earlier : List ℕ) (ws : List Wire) (w : Wire) (ls : List (Option Line)) → 1 ≤ t →
-      WireKept job t earlier ws w → Remaining t earlier (ws ++ (w ∷ [])) [] ls → Remaining t earlier ws [] (some (wire w) ∷ ls)
+      WireKept job t earlier ws w → Remaining t earlier (ws ++ (w ∷ [])) [] ls → Remaining t earlier ws [] (Some (wire w) ∷ ls)
   unfolding wires_then none_loose
   wire_above t earlier ws w ls o k r =
       let e = append_assoc ws (w ∷ []) r.vs in
@@ -124,7 +124,7 @@ module _ (job : Job) where
         vs = w ∷ r.vs;
         trs = r.trs;
         ks = r.ks;
-        lines_below = ap (λ (l : List (Option Line)). some (wire w) ∷ l) r.lines_below;
+        lines_below = ap (λ (l : List (Option Line)). Some (wire w) ∷ l) r.lines_below;
         wires = (k, r.wires);
         tracks = rw e at r.tracks;
         looses = rw e at r.looses;
@@ -134,7 +134,7 @@ module _ (job : Job) where
       }
 
   track_above : (t : ℕ) (earlier : List ℕ) (ws : List Wire) (s : ℕ) (ls : List (Option Line)) → is_true_sum job (suc t) s 0 ls ≡ true →
-      Remaining (suc t) (earlier ++ wire_numbers ws) [] [] ls → Remaining t earlier ws [] (some (track (suc t) s) ∷ ls)
+      Remaining (suc t) (earlier ++ wire_numbers ws) [] [] ls → Remaining t earlier ws [] (Some (track (suc t) s) ∷ ls)
   unfolding wires_then tracks_then track_numbers none_loose
   track_above t earlier ws s ls k r =
       let on = earlier ++ wire_numbers ws in
@@ -144,7 +144,7 @@ module _ (job : Job) where
         vs = [];
         trs = record { track = suc t; sum = s; wires = r.vs } ∷ r.trs;
         ks = r.ks;
-        lines_below = ap (λ (l : List (Option Line)). some (track (suc t) s) ∷ l) r.lines_below;
+        lines_below = ap (λ (l : List (Option Line)). Some (track (suc t) s) ∷ l) r.lines_below;
         wires = tt;
         tracks = rw (append-nil ws) (refl, omega (arith, sum), r.wires, r.tracks);
         looses = rw (append-nil ws, ← e) r.looses;
@@ -158,24 +158,24 @@ module _ (job : Job) where
   abbrev SoundFrom : ℕ → ℕ → List ℕ → List Wire → List ℕ → List (Option Line) → Type 0
   SoundFrom n t earlier ws ns ls = judge_from job n (in_layout t earlier ws ns) ls ≡ sound_text
 
-  track_case : (n t : ℕ) (earlier : List ℕ) (ws : List Wire) (ns : List ℕ) (u s : ℕ) (ls : List (Option Line)) → SoundFrom n t earlier ws ns (some (track u s) ∷ ls) →
-      (SoundFrom (suc n) u (earlier ++ wire_numbers ws) [] ns ls → Remaining u (earlier ++ wire_numbers ws) [] ns ls) → Remaining t earlier ws ns (some (track u s) ∷ ls)
+  track_case : (n t : ℕ) (earlier : List ℕ) (ws : List Wire) (ns : List ℕ) (u s : ℕ) (ls : List (Option Line)) → SoundFrom n t earlier ws ns (Some (track u s) ∷ ls) →
+      (SoundFrom (suc n) u (earlier ++ wire_numbers ws) [] ns ls → Remaining u (earlier ++ wire_numbers ws) [] ns ls) → Remaining t earlier ws ns (Some (track u s) ∷ ls)
   unfolding keeps_rules with_line
   track_case n t earlier ws ns u s ls h f =
       let x = passed n (in_layout t earlier ws ns) (track u s) ls h in
       let c = next_in_turn job t earlier ws ns u s x.in_place in
       rw (c.in_turn, c.loose_none) (track_above t earlier ws s ls (rw c.in_turn at x.kept) (rw (c.in_turn, c.loose_none) at (f x.rest)))
 
-  wire_case : (n t : ℕ) (earlier : List ℕ) (ws : List Wire) (ns : List ℕ) (w : Wire) (ls : List (Option Line)) → SoundFrom n t earlier ws ns (some (wire w) ∷ ls) →
-      (SoundFrom (suc n) t earlier (ws ++ (w ∷ [])) ns ls → Remaining t earlier (ws ++ (w ∷ [])) ns ls) → Remaining t earlier ws ns (some (wire w) ∷ ls)
+  wire_case : (n t : ℕ) (earlier : List ℕ) (ws : List Wire) (ns : List ℕ) (w : Wire) (ls : List (Option Line)) → SoundFrom n t earlier ws ns (Some (wire w) ∷ ls) →
+      (SoundFrom (suc n) t earlier (ws ++ (w ∷ [])) ns ls → Remaining t earlier (ws ++ (w ∷ [])) ns ls) → Remaining t earlier ws ns (Some (wire w) ∷ ls)
   unfolding keeps_rules with_line
   wire_case n t earlier ws ns w ls h f =
       let x = passed n (in_layout t earlier ws ns) (wire w) ls h in
       let c = under_track job t earlier ws ns w x.in_place in
       rw c.loose_none (wire_above t earlier ws w ls c.from_track (wire_kept job t earlier ws w x.kept) (rw c.loose_none at (f x.rest)))
 
-  loose_case : (n t : ℕ) (earlier : List ℕ) (ws : List Wire) (ns : List ℕ) (j : ℕ) (ls : List (Option Line)) → SoundFrom n t earlier ws ns (some (loose j) ∷ ls) →
-      (SoundFrom (suc n) t earlier ws (ns ++ (j ∷ [])) ls → Remaining t earlier ws (ns ++ (j ∷ [])) ls) → Remaining t earlier ws ns (some (loose j) ∷ ls)
+  loose_case : (n t : ℕ) (earlier : List ℕ) (ws : List Wire) (ns : List ℕ) (j : ℕ) (ls : List (Option Line)) → SoundFrom n t earlier ws ns (Some (loose j) ∷ ls) →
+      (SoundFrom (suc n) t earlier ws (ns ++ (j ∷ [])) ls → Remaining t earlier ws (ns ++ (j ∷ [])) ls) → Remaining t earlier ws ns (Some (loose j) ∷ ls)
   unfolding keeps_rules with_line
   loose_case n t earlier ws ns j ls h f =
       let x = passed n (in_layout t earlier ws ns) (loose j) ls h in
@@ -185,28 +185,28 @@ module _ (job : Job) where
   behind_end : (n : ℕ) (ls : List (Option Line)) → judge_from job n behind_layout ls ≡ sound_text → ls ≡ []
   unfolding judge_from is_in_place
   behind_end n [] h = refl
-  behind_end n (none ∷ ls) h = absurd (not_sound n h)
-  behind_end n (some x ∷ ls) h = absurd (not_sound n h)
+  behind_end n (None ∷ ls) h = absurd (not_sound n h)
+  behind_end n (Some x ∷ ls) h = absurd (not_sound n h)
 
-  closes_case : (n t : ℕ) (earlier : List ℕ) (ws : List Wire) (ns : List ℕ) (ls : List (Option Line)) → SoundFrom n t earlier ws ns (some closes ∷ ls) → Remaining t earlier ws ns (some closes ∷ ls)
+  closes_case : (n t : ℕ) (earlier : List ℕ) (ws : List Wire) (ns : List ℕ) (ls : List (Option Line)) → SoundFrom n t earlier ws ns (Some closes ∷ ls) → Remaining t earlier ws ns (Some closes ∷ ls)
   unfolding is_in_place is_in_turn ends_track keeps_rules with_line
   closes_case n t earlier ws ns ls h =
       let x = passed n (in_layout t earlier ws ns) closes ls h in
       closes_last t earlier ws ns ls (behind_end (suc n) ls x.rest) (eqb-true t job.board.tracks x.in_place) x.kept
 
-  opens_case : (n t : ℕ) (earlier : List ℕ) (ws : List Wire) (ns : List ℕ) (ls : List (Option Line)) → SoundFrom n t earlier ws ns (some opens ∷ ls) → ⊥
+  opens_case : (n t : ℕ) (earlier : List ℕ) (ws : List Wire) (ns : List ℕ) (ls : List (Option Line)) → SoundFrom n t earlier ws ns (Some opens ∷ ls) → ⊥
   unfolding is_in_place is_in_turn
   opens_case n t earlier ws ns ls h = false≢true (passed n (in_layout t earlier ws ns) opens ls h).in_place
 
   remaining : (n t : ℕ) (earlier : List ℕ) (ws : List Wire) (ns : List ℕ) (ls : List (Option Line)) → SoundFrom n t earlier ws ns ls → Remaining t earlier ws ns ls
   unfolding judge_from at_text_end
   remaining n t earlier ws ns [] h = absurd (not_sound n h)
-  remaining n t earlier ws ns (none ∷ ls) h = absurd (not_sound n h)
-  remaining n t earlier ws ns (some opens ∷ ls) h = absurd (opens_case n t earlier ws ns ls h)
-  remaining n t earlier ws ns (some (track u s) ∷ ls) h = track_case n t earlier ws ns u s ls h (remaining (suc n) u (earlier ++ wire_numbers ws) [] ns ls)
-  remaining n t earlier ws ns (some (wire w) ∷ ls) h = wire_case n t earlier ws ns w ls h (remaining (suc n) t earlier (ws ++ (w ∷ [])) ns ls)
-  remaining n t earlier ws ns (some (loose j) ∷ ls) h = loose_case n t earlier ws ns j ls h (remaining (suc n) t earlier ws (ns ++ (j ∷ [])) ls)
-  remaining n t earlier ws ns (some closes ∷ ls) h = closes_case n t earlier ws ns ls h
+  remaining n t earlier ws ns (None ∷ ls) h = absurd (not_sound n h)
+  remaining n t earlier ws ns (Some opens ∷ ls) h = absurd (opens_case n t earlier ws ns ls h)
+  remaining n t earlier ws ns (Some (track u s) ∷ ls) h = track_case n t earlier ws ns u s ls h (remaining (suc n) u (earlier ++ wire_numbers ws) [] ns ls)
+  remaining n t earlier ws ns (Some (wire w) ∷ ls) h = wire_case n t earlier ws ns w ls h (remaining (suc n) t earlier (ws ++ (w ∷ [])) ns ls)
+  remaining n t earlier ws ns (Some (loose j) ∷ ls) h = loose_case n t earlier ws ns j ls h (remaining (suc n) t earlier ws (ns ++ (j ∷ [])) ls)
+  remaining n t earlier ws ns (Some closes ∷ ls) h = closes_case n t earlier ws ns ls h
 
   -- ---- the whole tree
 
@@ -219,14 +219,14 @@ module _ (job : Job) where
     pub looses : KeptLoose job (track_numbers trs) [] ks
     pub none_missing : NoneMissing job (track_numbers trs ++ ks)
 
-  behind_opening : (ls : List (Option Line)) → Remaining 0 [] [] [] ls → KeptTree (some opens ∷ ls)
+  behind_opening : (ls : List (Option Line)) → Remaining 0 [] [] [] ls → KeptTree (Some opens ∷ ls)
   unfolding wires_then
   behind_opening ls r =
       let e = r.before_tracks refl in
       record {
         trs = r.trs;
         ks = r.ks;
-        lines_are = ap (λ (l : List (Option Line)). some opens ∷ l) (rw e at r.lines_below);
+        lines_are = ap (λ (l : List (Option Line)). Some opens ∷ l) (rw e at r.lines_below);
         tracks = rw e at r.tracks;
         looses = rw e at r.looses;
         none_missing = λ n i. rw e at (r.none_missing n i);
@@ -235,9 +235,9 @@ module _ (job : Job) where
   pub sound_tree : (ls : List (Option Line)) → judge_from job 1 before_layout ls ≡ sound_text → KeptTree ls
   unfolding judge_from at_text_end is_in_place is_opening keeps_rules with_line
   sound_tree [] h = absurd (not_sound 1 h)
-  sound_tree (none ∷ ls) h = absurd (not_sound 1 h)
-  sound_tree (some (track u s) ∷ ls) h = absurd (not_sound 1 h)
-  sound_tree (some (wire w) ∷ ls) h = absurd (not_sound 1 h)
-  sound_tree (some (loose j) ∷ ls) h = absurd (not_sound 1 h)
-  sound_tree (some closes ∷ ls) h = absurd (not_sound 1 h)
-  sound_tree (some opens ∷ ls) h = behind_opening ls (remaining 2 0 [] [] [] ls h)
+  sound_tree (None ∷ ls) h = absurd (not_sound 1 h)
+  sound_tree (Some (track u s) ∷ ls) h = absurd (not_sound 1 h)
+  sound_tree (Some (wire w) ∷ ls) h = absurd (not_sound 1 h)
+  sound_tree (Some (loose j) ∷ ls) h = absurd (not_sound 1 h)
+  sound_tree (Some closes ∷ ls) h = absurd (not_sound 1 h)
+  sound_tree (Some opens ∷ ls) h = behind_opening ls (remaining 2 0 [] [] [] ls h)

@@ -2,7 +2,7 @@
 use Prim.Native.Nat.{ℕ, ◌≤◌}
 use mathlib.Core.Path.{◌≡◌, refl, sym, ap, ap₂, ◌∙◌}
 use mathlib.Core.Bool.{Bool, true, false, ◌&&◌}
-use mathlib.Core.Option.{Option, none, some}
+use Rattle.std.specs.Prelude.{Option, None, Some}
 use mathlib.Core.List.{List, [], ◌∷◌, ◌++◌, map, append_assoc, append-nil}
 use native.Mathlib.Omega.{arith}
 use lib.ListN.{length}
@@ -53,7 +53,7 @@ not_ended (b ∷ []) h l = not-true (is_end b) (and_split (plain b) true h).0
 not_ended (b ∷ c ∷ w) h l = not_ended (c ∷ w) (and_split (plain b) (all_of plain (c ∷ w)) h).1 (omega arith)
 
 -- a last line without byte 10 is not of the form
-pub line_open : (w : List ℕ) → all_of plain w ≡ true → 1 ≤ length w → lines_read w ≡ none ∷ []
+pub line_open : (w : List ℕ) → all_of plain w ≡ true → 1 ≤ length w → lines_read w ≡ None ∷ []
 unfolding lines_read read_each
 line_open w h l = rw (not_ended w h l, piece_last is_end w (unfold plain in h) l)
 
@@ -61,7 +61,7 @@ line_open w h l = rw (not_ended w h l, piece_last is_end w (unfold plain in h) l
 
 -- lines that are all of the form
 abbrev pub of_form : List Line → List (Option Line)
-of_form xs = map (λ x. some x) xs
+of_form xs = map (λ x. Some x) xs
 
 pub lines_of_text : (xs : List Line) → small_lines xs ≡ true → lines_read (lines_text xs) ≡ of_form xs
 unfolding lines_text small_lines lines_read is_ended read_each pieces
@@ -70,7 +70,7 @@ lines_of_text (x ∷ xs) h =
     let s = and_split (small_line x) (small_lines xs) h in
     line_then (line_text x) (lines_text xs) (plain_line x) ∙ ap₂ (λ y ys. y ∷ ys) (read_line_lem x s.0) (lines_of_text xs s.1)
 
-read_text : (s : List ℕ) (x : Line) → read_line s ≡ some x → s ≡ line_text x
+read_text : (s : List ℕ) (x : Line) → read_line s ≡ Some x → s ≡ line_text x
 unfolding read_line
 read_text s x h =
     let o = only_some (same (line_text (rough_line s)) s && small_line (rough_line s)) (rough_line s) x h in
@@ -82,11 +82,11 @@ first_rendered : (w rest : List ℕ) (xs : List Line) → ◌≡◌ {A = List (O
 unfolding lines_text
 first_rendered w rest [] h f = cc
 first_rendered w rest (x ∷ xs) h f =
-    let first : read_line w ≡ some x = cc in
+    let first : read_line w ≡ Some x = cc in
     let others : lines_read rest ≡ of_form xs = cc in
     rw (read_text w x first, f xs others)
 
-open_rendered : (xs : List Line) → none ∷ [] ≡ of_form xs → {w : List ℕ} → w ≡ lines_text xs
+open_rendered : (xs : List Line) → None ∷ [] ≡ of_form xs → {w : List ℕ} → w ≡ lines_text xs
 open_rendered [] h = cc
 open_rendered (x ∷ xs) h = cc
 

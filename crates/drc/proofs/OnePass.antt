@@ -3,7 +3,7 @@
 use Prim.Native.Nat.{ℕ, suc, ◌≤◌}
 use mathlib.Core.Path.{◌≡◌, refl, sym, ap, ◌∙◌}
 use mathlib.Core.Bool.{Bool, true, false, cond, not, ◌&&◌, ◌||◌, false≢true}
-use mathlib.Core.Option.{Option, none, some}
+use Rattle.std.specs.Prelude.{Option, None, Some}
 use mathlib.Core.List.{List, [], ◌∷◌, ◌++◌}
 use native.Mathlib.Omega.{arith}
 use lib.Dec.{eqb, leb, ltb}
@@ -26,13 +26,13 @@ use Rattle.drc.proofs.Summaries.{SummaryFits, fits_empty, wired_is, fits_track, 
 -- ---- the wires of a track end
 
 -- behind a broken wire
-settled_breach : (m : Summary) (l : ℕ) (x : PassStep) (go : PassState → Verdict) → m.breach ≡ some l →
+settled_breach : (m : Summary) (l : ℕ) (x : PassStep) (go : PassState → Verdict) → m.breach ≡ Some l →
     after_step (judged_track m x) go ≡ cond (eqb m.sum m.printed) (broken_at l) (broken_at m.line)
 unfolding after_step judged_track unless_breach
 settled_breach m l x go f = by_test (eqb m.sum m.printed) (λ e. rw (e, f)) (λ e. rw e)
 
 -- behind none
-settled : (m : Summary) (x : PassStep) (go : PassState → Verdict) → m.breach ≡ none →
+settled : (m : Summary) (x : PassStep) (go : PassState → Verdict) → m.breach ≡ None →
     after_step (judged_track m x) go ≡ cond (eqb m.sum m.printed) (after_step x go) (broken_at m.line)
 unfolding after_step judged_track unless_breach
 settled m x go f = by_test (eqb m.sum m.printed) (λ e. rw (e, f)) (λ e. rw e)
@@ -80,10 +80,10 @@ module _ (job : Job) where
   -- ---- behind a broken wire, at line l
 
   abbrev BreachAbove : List (Option Line) → Type 0
-  BreachAbove ls = (n l : ℕ) (m : Summary) → m.breach ≡ some l → eqb m.last 0 ≡ true → 1 ≤ m.track → m.track ≤ track_count →
+  BreachAbove ls = (n l : ℕ) (m : Summary) → m.breach ≡ Some l → eqb m.last 0 ≡ true → 1 ≤ m.track → m.track ≤ track_count →
       pass_from job n (running m) ls ≡ cond (is_true_sum job m.track m.printed m.sum ls) (broken_at l) (broken_at m.line)
 
-  breach_above_end : (n l : ℕ) (m : Summary) (c : Bool) (x : PassStep) (go : PassState → Verdict) → m.breach ≡ some l →
+  breach_above_end : (n l : ℕ) (m : Summary) (c : Bool) (x : PassStep) (go : PassState → Verdict) → m.breach ≡ Some l →
       after_step (cond c (judged_track m x) (decides (closed_at m.breach n))) go ≡
       cond (not c || eqb m.sum m.printed) (broken_at l) (broken_at m.line)
   unfolding after_step closed_at
@@ -93,26 +93,26 @@ module _ (job : Job) where
   breach_above : (ls : List (Option Line)) → BreachAbove ls
   unfolding pass_from pass_end pass_step pass_ill_formed pass_line pass_in_turn is_in_turn is_true_sum closed_at after_step breach_after
   breach_above [] n l m f z o b = rw f
-  breach_above (none ∷ ls) n l m f z o b = rw f
-  breach_above (some opens ∷ ls) n l m f z o b = rw f
-  breach_above (some (track u s) ∷ ls) n l m f z o b = rw z (breach_above_end n l m (ends_track job m.track (track u s)) _ (goes_on n ls) f)
-  breach_above (some (wire w) ∷ ls) n l m f z o b =
+  breach_above (None ∷ ls) n l m f z o b = rw f
+  breach_above (Some opens ∷ ls) n l m f z o b = rw f
+  breach_above (Some (track u s) ∷ ls) n l m f z o b = rw z (breach_above_end n l m (ends_track job m.track (track u s)) _ (goes_on n ls) f)
+  breach_above (Some (wire w) ∷ ls) n l m f z o b =
       rw (z, le-leb 1 m.track o, le-leb m.track track_count b)
       (breach_above ls (suc n) l (add_wire job n w (drawn_by job m.track w) m) (rw f) z o b)
-  breach_above (some (loose k) ∷ ls) n l m f z o b = breach_above_end n l m (ends_track job m.track (loose k)) _ (goes_on n ls) f
-  breach_above (some closes ∷ ls) n l m f z o b = breach_above_end n l m (ends_track job m.track closes) _ (goes_on n ls) f
+  breach_above (Some (loose k) ∷ ls) n l m f z o b = breach_above_end n l m (ends_track job m.track (loose k)) _ (goes_on n ls) f
+  breach_above (Some closes ∷ ls) n l m f z o b = breach_above_end n l m (ends_track job m.track closes) _ (goes_on n ls) f
 
   -- ---- behind the closing line
 
   behind : (ls : List (Option Line)) (n : ℕ) → pass_from job n finished ls ≡ judge_from job n behind_layout ls
   unfolding pass_from pass_end pass_step pass_ill_formed pass_line after_step judge_from at_text_end is_in_place
   behind [] n = refl
-  behind (none ∷ ls) n = refl
-  behind (some x ∷ ls) n = refl
+  behind (None ∷ ls) n = refl
+  behind (Some x ∷ ls) n = refl
 
   -- ---- while no line above is broken
 
-  ended_step : (n : ℕ) (m : Summary) (c q : Bool) (st : PassState) (go : PassState → Verdict) → m.breach ≡ none →
+  ended_step : (n : ℕ) (m : Summary) (c q : Bool) (st : PassState) (go : PassState → Verdict) → m.breach ≡ None →
       after_step (cond c (judged_track m (or_broken n q (passes_on st))) (decides (closed_at m.breach n))) go ≡
       cond c (cond (eqb m.sum m.printed) (cond q (go st) (broken_at n)) (broken_at m.line)) (broken_at n)
   unfolding after_step closed_at
@@ -120,7 +120,7 @@ module _ (job : Job) where
       settled m (or_broken n q (passes_on st)) go f ∙ ap (λ u. cond (eqb m.sum m.printed) u (broken_at m.line)) (after_test n q st go)
   ended_step n m false q st go f = rw f
 
-  next_step : (n : ℕ) (m : Summary) (c : Bool) (st : PassState) (go : PassState → Verdict) → m.breach ≡ none →
+  next_step : (n : ℕ) (m : Summary) (c : Bool) (st : PassState) (go : PassState → Verdict) → m.breach ≡ None →
       after_step (cond c (judged_track m (passes_on st)) (decides (closed_at m.breach n))) go ≡
       cond c (cond (eqb m.sum m.printed) (go st) (broken_at m.line)) (broken_at n)
   unfolding after_step closed_at
@@ -158,7 +158,7 @@ module _ (job : Job) where
       g (suc n) [] (add_track n u s m) (fits_track job n u s ws m f) r.0 r.1 ∙
       ap (λ (l : List ℕ). cond (is_true_sum job u s 0 ls) (judge_from job (suc n) (in_layout u l [] []) ls) (broken_at n)) (wired_is job ws m f)
 
-  waiting_track : (u s : ℕ) (ls : List (Option Line)) → Waiting ls → Waiting (some (track u s) ∷ ls)
+  waiting_track : (u s : ℕ) (ls : List (Option Line)) → Waiting ls → Waiting (Some (track u s) ∷ ls)
   unfolding pass_from pass_step pass_line pass_in_turn judge_from is_in_place is_in_turn keeps_rules with_line is_true_sum
   waiting_track u s ls g n ws m f o b =
       rw (f.loose_is, none_last ws m f)
@@ -166,7 +166,7 @@ module _ (job : Job) where
       next_waiting (ends_track job m.track (track u s)) (eqb m.sum m.printed) (is_true_sum job u s 0 ls) _ _ (broken_at n) (broken_at m.line)
       (under_next u s ls g n ws m f))
 
-  clean_track : (u s : ℕ) (ls : List (Option Line)) → Waiting ls → Clean (some (track u s) ∷ ls)
+  clean_track : (u s : ℕ) (ls : List (Option Line)) → Waiting ls → Clean (Some (track u s) ∷ ls)
   unfolding pass_from pass_step pass_line pass_in_turn judge_from is_in_place is_in_turn keeps_rules with_line
   clean_track u s ls g n ws ns m f h z =
       rw (← f.loose_is)
@@ -181,7 +181,7 @@ module _ (job : Job) where
   closing_rest : (ls : List (Option Line)) (n : ℕ) (c e q : Bool) → c ≡ true → e ≡ true → q ≡ true → goes_on n ls finished ≡ judge_from job (suc n) behind_layout ls
   closing_rest ls n c e q x y z = behind ls (suc n)
 
-  waiting_closes : (ls : List (Option Line)) → Waiting (some closes ∷ ls)
+  waiting_closes : (ls : List (Option Line)) → Waiting (Some closes ∷ ls)
   unfolding pass_from pass_step pass_line pass_in_turn judge_from is_in_place is_in_turn keeps_rules with_line is_true_sum
   waiting_closes ls n ws m f o b =
       let c = ends_track job m.track closes in
@@ -190,7 +190,7 @@ module _ (job : Job) where
       (ended_step n m c q finished (goes_on n ls) f.no_breach ∙
       ended_waiting c (eqb m.sum m.printed) q _ _ (broken_at n) (broken_at m.line) (closing_rest ls n c (eqb m.sum m.printed) q))
 
-  clean_closes : (ls : List (Option Line)) → Clean (some closes ∷ ls)
+  clean_closes : (ls : List (Option Line)) → Clean (Some closes ∷ ls)
   unfolding pass_from pass_step pass_line pass_in_turn judge_from is_in_place is_in_turn keeps_rules with_line
   clean_closes ls n ws ns m f h z =
       let c = ends_track job m.track closes in
@@ -200,13 +200,13 @@ module _ (job : Job) where
       ended_clean c (eqb m.sum m.printed) q _ _ (broken_at n) (broken_at m.line) h (closing_rest ls n c (eqb m.sum m.printed) q))
 
   -- a wire where none can stand
-  clean_wire : (w : Wire) (ls : List (Option Line)) → Clean (some (wire w) ∷ ls)
+  clean_wire : (w : Wire) (ls : List (Option Line)) → Clean (Some (wire w) ∷ ls)
   unfolding pass_from pass_step pass_line judge_from is_in_place after_step closed_at
   clean_wire w ls n ws ns m f h z = rw (f.loose_is, z w, f.no_breach)
 
   module _ (a : AcceptedJob job) where
     -- a wire under a track line
-    waiting_wire : (w : Wire) (ls : List (Option Line)) → Waiting ls → Waiting (some (wire w) ∷ ls)
+    waiting_wire : (w : Wire) (ls : List (Option Line)) → Waiting ls → Waiting (Some (wire w) ∷ ls)
     unfolding pass_from pass_step pass_line pass_in_turn judge_from is_in_place is_in_turn keeps_rules with_line is_true_sum after_step breach_after
     waiting_wire w ls g n ws m f o b =
         let d = drawn_by job m.track w in
@@ -230,7 +230,7 @@ module _ (job : Job) where
         let ends_wires : eqb k 0 ≡ false = sym next.loose_is ∙ some_loose ns k in
         g (suc n) ws (ns ++ (k ∷ [])) (add_loose k m) next e (λ w. rw ends_wires)
 
-    waiting_loose : (k : ℕ) (ls : List (Option Line)) → Clean ls → Waiting (some (loose k) ∷ ls)
+    waiting_loose : (k : ℕ) (ls : List (Option Line)) → Clean ls → Waiting (Some (loose k) ∷ ls)
     unfolding pass_from pass_step pass_line pass_in_turn judge_from is_in_place is_in_turn keeps_rules with_line is_true_sum
     waiting_loose k ls g n ws m f o b =
         let c = ends_track job m.track (loose k) in
@@ -239,7 +239,7 @@ module _ (job : Job) where
         (ended_step n m c q (running (add_loose k m)) (goes_on n ls) f.no_breach ∙
         ended_waiting c (eqb m.sum m.printed) q _ _ (broken_at n) (broken_at m.line) (loose_rest k ls g n ws [] m f))
 
-    clean_loose : (k : ℕ) (ls : List (Option Line)) → Clean ls → Clean (some (loose k) ∷ ls)
+    clean_loose : (k : ℕ) (ls : List (Option Line)) → Clean ls → Clean (Some (loose k) ∷ ls)
     unfolding pass_from pass_step pass_line pass_in_turn judge_from is_in_place is_in_turn keeps_rules with_line
     clean_loose k ls g n ws ns m f h z =
         let c = ends_track job m.track (loose k) in
@@ -252,12 +252,12 @@ module _ (job : Job) where
     both : (ls : List (Option Line)) → Clean ls × Waiting ls
     unfolding pass_from pass_end pass_step pass_ill_formed pass_line closed_at after_step judge_from at_text_end is_in_place is_in_turn is_true_sum
     both [] = (λ n ws ns m f h z. rw f.no_breach, λ n ws m f o b. rw f.no_breach)
-    both (none ∷ ls) = (λ n ws ns m f h z. rw f.no_breach, λ n ws m f o b. rw f.no_breach)
-    both (some opens ∷ ls) = (λ n ws ns m f h z. rw f.no_breach, λ n ws m f o b. rw f.no_breach)
-    both (some (track u s) ∷ ls) = (clean_track u s ls (both ls).1, waiting_track u s ls (both ls).1)
-    both (some (wire w) ∷ ls) = (clean_wire w ls, waiting_wire w ls (both ls).1)
-    both (some (loose k) ∷ ls) = (clean_loose k ls (both ls).0, waiting_loose k ls (both ls).0)
-    both (some closes ∷ ls) = (clean_closes ls, waiting_closes ls)
+    both (None ∷ ls) = (λ n ws ns m f h z. rw f.no_breach, λ n ws m f o b. rw f.no_breach)
+    both (Some opens ∷ ls) = (λ n ws ns m f h z. rw f.no_breach, λ n ws m f o b. rw f.no_breach)
+    both (Some (track u s) ∷ ls) = (clean_track u s ls (both ls).1, waiting_track u s ls (both ls).1)
+    both (Some (wire w) ∷ ls) = (clean_wire w ls, waiting_wire w ls (both ls).1)
+    both (Some (loose k) ∷ ls) = (clean_loose k ls (both ls).0, waiting_loose k ls (both ls).0)
+    both (Some closes ∷ ls) = (clean_closes ls, waiting_closes ls)
 
     -- the first line
     opened_rest : (n : ℕ) (ls : List (Option Line)) → goes_on n ls (running empty_summary) ≡ judge_from job (suc n) (in_layout 0 [] [] []) ls
@@ -267,12 +267,12 @@ module _ (job : Job) where
     from_start : (n : ℕ) (ls : List (Option Line)) → pass_from job n unbegun ls ≡ judge_from job n before_layout ls
     unfolding pass_from pass_end pass_step pass_ill_formed pass_line or_broken after_step judge_from at_text_end is_in_place is_opening keeps_rules with_line
     from_start n [] = refl
-    from_start n (none ∷ ls) = refl
-    from_start n (some opens ∷ ls) = opened_rest n ls
-    from_start n (some (track u s) ∷ ls) = refl
-    from_start n (some (wire w) ∷ ls) = refl
-    from_start n (some (loose k) ∷ ls) = refl
-    from_start n (some closes ∷ ls) = refl
+    from_start n (None ∷ ls) = refl
+    from_start n (Some opens ∷ ls) = opened_rest n ls
+    from_start n (Some (track u s) ∷ ls) = refl
+    from_start n (Some (wire w) ∷ ls) = refl
+    from_start n (Some (loose k) ∷ ls) = refl
+    from_start n (Some closes ∷ ls) = refl
 
     -- the pass gives the verdict
     pub one_pass : (text : List ℕ) → pass_over job text ≡ judge job text

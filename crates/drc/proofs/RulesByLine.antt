@@ -3,7 +3,7 @@
 use Prim.Native.Nat.{ℕ, suc, ◌+◌, ◌≤◌}
 use mathlib.Core.Path.{◌≡◌, refl}
 use mathlib.Core.Bool.{Bool, true, not, ◌||◌, or-true}
-use mathlib.Core.Option.{Option, some}
+use Rattle.std.specs.Prelude.{Option, Some}
 use mathlib.Core.List.{List, [], ◌∷◌, ◌++◌, Memᴰ, append_assoc, append-nil}
 use native.Mathlib.Omega.{arith}
 use lib.Dec.{eqb}
@@ -60,7 +60,7 @@ module _ (job : Job) where
   -- ---- a step of the verdict
 
   step : (n : ℕ) (a : Above) (x : Line) (ls : List (Option Line)) → CanStand job a x → keeps_rules job a x ls ≡ true →
-      judge_from job (suc n) (with_line a x) ls ≡ sound_text → judge_from job n a (some x ∷ ls) ≡ sound_text
+      judge_from job (suc n) (with_line a x) ls ≡ sound_text → judge_from job n a (Some x ∷ ls) ≡ sound_text
   unfolding judge_from
   step n a x ls s k h = rw (and_both (is_in_place job a x) (keeps_rules job a x ls) (in_place_of job s) k) h
 

@@ -1,7 +1,7 @@
 -- A text whose tree keeps the rules line by line is a sound layout. Assumes nothing.
 use Prim.Native.Nat.{ℕ, suc, ◌≤◌, ◌<◌}
 use mathlib.Core.Path.{◌≡◌, refl, sym, ap₂}
-use mathlib.Core.Option.{some}
+use Rattle.std.specs.Prelude.{Some}
 use mathlib.Core.List.Memᴰ
 use mathlib.Core.List.{List, [], ◌∷◌, ◌++◌, map, map-append, append_assoc, append-nil, Memᴰ}
 use native.Mathlib.Omega.{arith}
@@ -37,7 +37,7 @@ module _ (job : Job) (rise : EachPair (λ a b. a.number < b.number) job.nets) wh
       drawn : vs ≡ map (wire_of job.board t) ps
       placed : Each (SoundPlacement job earlier t) ps
       rows : EachPair (λ p q. bottom p < q.top) ps
-      under : Each (λ p. (v : Wire) (q : Placement) → Memᴰ v ws → covers_of job v ≡ some q → bottom q < p.top) ps
+      under : Each (λ p. (v : Wire) (q : Placement) → Memᴰ v ws → covers_of job v ≡ Some q → bottom q < p.top) ps
 
     sound_placement : (ws : List Wire) (v : Wire) (w : WireKept job t earlier ws v) → SoundPlacement job earlier t w.place
     sound_placement ws v w =

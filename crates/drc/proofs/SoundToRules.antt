@@ -1,7 +1,7 @@
 -- The tree of a sound layout keeps the rules line by line. Assumes nothing.
 use Prim.Native.Nat.{ℕ, suc, ◌+◌, ◌≤◌, ◌<◌}
 use mathlib.Core.Path.{◌≡◌, refl, sym, ap, ◌∙◌}
-use mathlib.Core.Option.{some-injective}
+use Rattle.std.specs.Prelude.{Some}
 use mathlib.Core.Logic.{⊎_elim}
 use mathlib.Core.List.{List, [], ◌∷◌, ◌++◌, map, map-append, append_assoc, Memᴰ}
 use native.Mathlib.Omega.{arith}
@@ -29,6 +29,7 @@ use Rattle.drc.proofs.Drawings.{drawn_of_lem, covers_of_lem}
 use Rattle.drc.proofs.WireRule.{WireKept, draws_legal}
 use Rattle.drc.proofs.RulesByLine.{KeptWires, KeptTracks, KeptLoose}
 use Rattle.drc.proofs.RulesToSound.{net_numbers_of}
+use Rattle.std.proofs.lemmas.Option.{same_Some}
 
 -- of two placements with rising tops that share no row, the first ends above the second
 rising_apart : (p q : Placement) → p.top < q.top → Apart p q → bottom p < q.top
@@ -83,7 +84,7 @@ module _ (job : Job) (rise : EachPair (λ a b. a.number < b.number) job.nets) wh
           under = λ v q i d.
               let b = mathlib.Core.List.Memᴰ.of_map (wire_of job.board t) qs i in
               let f = covers_of_lem job rise t (wire_of job.board t b.0) b.0 (draws b.0 (at b.0 (iq b.0 b.1))) in
-              let same : b.0 ≡ q = some-injective b.0 q (sym f ∙ ap (covers_of job) b.2 ∙ d) in
+              let same : b.0 ≡ q = same_Some b.0 q (sym f ∙ ap (covers_of job) b.2 ∙ d) in
               rw same at (over b.0 b.1);
         }
 

@@ -2,7 +2,7 @@
 use Prim.Native.Nat.{ℕ, ◌+◌}
 use mathlib.Core.Path.{◌≡◌, refl, ap}
 use mathlib.Core.Bool.{true, false, not, ◌||◌, true≢false}
-use mathlib.Core.Option.{Option, none, some}
+use Rattle.std.specs.Prelude.{Option, None, Some}
 use mathlib.Core.List.{List, [], ◌∷◌, ◌++◌, map}
 use native.Mathlib.Omega.{arith}
 use lib.Dec.{eqb}
@@ -31,12 +31,12 @@ module _ (job : Job) (u s : ℕ) where
     pub wires : List Wire
     pub next : Line
     pub rest : List (Option Line)
-    pub lines_below : ls ≡ map (λ v. some (wire v)) wires ++ some next ∷ rest
+    pub lines_below : ls ≡ map (λ v. Some (wire v)) wires ++ Some next ∷ rest
     pub ends_wires : EndsWires next
     pub ends : ends_track job u next ≡ true
     pub differs : sum + wires_sum job wires ≡ s → ⊥
 
-  ends_sum : (sum : ℕ) (x : Line) (ls : List (Option Line)) → EndsWires x → (not (ends_track job u x) || eqb sum s) ≡ false → SumFails sum (some x ∷ ls)
+  ends_sum : (sum : ℕ) (x : Line) (ls : List (Option Line)) → EndsWires x → (not (ends_track job u x) || eqb sum s) ≡ false → SumFails sum (Some x ∷ ls)
   unfolding wires_sum sum_over
   ends_sum sum x ls n f =
       let o = or_fails (not (ends_track job u x)) (eqb sum s) f in
@@ -53,24 +53,24 @@ module _ (job : Job) (u s : ℕ) where
   pub sum_fails : (sum : ℕ) (ls : List (Option Line)) → is_true_sum job u s sum ls ≡ false → SumFails sum ls
   unfolding is_true_sum wires_sum sum_over
   sum_fails sum [] f = absurd (true≢false f)
-  sum_fails sum (none ∷ ls) f = absurd (true≢false f)
-  sum_fails sum (some opens ∷ ls) f = absurd (true≢false f)
-  sum_fails sum (some (track t v) ∷ ls) f = ends_sum sum (track t v) ls next_track f
-  sum_fails sum (some (loose k) ∷ ls) f = ends_sum sum (loose k) ls first_loose f
-  sum_fails sum (some closes ∷ ls) f = ends_sum sum closes ls last_line f
-  sum_fails sum (some (wire w) ∷ ls) f =
+  sum_fails sum (None ∷ ls) f = absurd (true≢false f)
+  sum_fails sum (Some opens ∷ ls) f = absurd (true≢false f)
+  sum_fails sum (Some (track t v) ∷ ls) f = ends_sum sum (track t v) ls next_track f
+  sum_fails sum (Some (loose k) ∷ ls) f = ends_sum sum (loose k) ls first_loose f
+  sum_fails sum (Some closes ∷ ls) f = ends_sum sum closes ls last_line f
+  sum_fails sum (Some (wire w) ∷ ls) f =
       let r = sum_fails (sum + weight_of job w.number) ls f in
       record {
         wires = w ∷ r.wires;
         next = r.next;
         rest = r.rest;
-        lines_below = ap (λ (l : List (Option Line)). some (wire w) ∷ l) r.lines_below;
+        lines_below = ap (λ (l : List (Option Line)). Some (wire w) ∷ l) r.lines_below;
         ends_wires = r.ends_wires;
         ends = r.ends;
         differs = λ (e : sum + (weight_of job w.number + sum_over (weight_of job) (wire_numbers r.wires)) ≡ s). r.differs (omega arith);
       }
 
-  ended_fails : (sum : ℕ) (x : Line) (ls : List (Option Line)) → EndsWires x → ends_track job u x ≡ true → (sum ≡ s → ⊥) → is_true_sum job u s sum (some x ∷ ls) ≡ false
+  ended_fails : (sum : ℕ) (x : Line) (ls : List (Option Line)) → EndsWires x → ends_track job u x ≡ true → (sum ≡ s → ⊥) → is_true_sum job u s sum (Some x ∷ ls) ≡ false
   unfolding is_true_sum
   ended_fails sum (track t v) ls next_track c d = rw (c, ne_eqb sum s d)
   ended_fails sum (loose k) ls first_loose c d = rw (c, ne_eqb sum s d)
@@ -79,7 +79,7 @@ module _ (job : Job) (u s : ℕ) where
   ended_fails sum (wire w) ls e c d = elim e [ ]
 
   differing_fails : (sum : ℕ) (ws : List Wire) (x : Line) (ls : List (Option Line)) → EndsWires x → ends_track job u x ≡ true → (sum + wires_sum job ws ≡ s → ⊥) →
-      is_true_sum job u s sum (map (λ v. some (wire v)) ws ++ some x ∷ ls) ≡ false
+      is_true_sum job u s sum (map (λ v. Some (wire v)) ws ++ Some x ∷ ls) ≡ false
   unfolding is_true_sum wires_sum sum_over
   differing_fails sum [] x ls n c d = ended_fails sum x ls n c (λ (e : sum ≡ s). d (omega arith))
   differing_fails sum (w ∷ ws) x ls n c d =

@@ -2,7 +2,7 @@
 use Prim.Native.Nat.{ℕ, ◌≤◌, ◌<◌}
 use mathlib.Core.Path.{◌≡◌, refl, sym, ap, ◌∙◌}
 use mathlib.Core.Bool.{true, not, ◌&&◌, true≢false, and-false}
-use mathlib.Core.Option.{none, some}
+use Rattle.std.specs.Prelude.{None, Some}
 use mathlib.Core.List.Memᴰ
 use mathlib.Core.List.{List, [], ◌∷◌, ◌++◌, map, map-append, append_assoc, append-nil}
 use native.Mathlib.Omega.{arith}
@@ -38,7 +38,7 @@ module _ (job : Job) where
     pub lowest_is : (p : Placement) → 1 ≤ p.top → all_of (λ v. is_below p (covers_of job v)) ws ≡ ltb m.lowest p.top
     pub last_is : (k : ℕ) → 1 ≤ k → all_of (λ j. ltb j k) ns ≡ ltb m.last k
     pub loose_is : none_loose ns ≡ eqb m.last 0
-    pub no_breach : m.breach ≡ none
+    pub no_breach : m.breach ≡ None
 
   pub fits_empty : SummaryFits [] [] empty_summary
   unfolding all_of none_loose
@@ -118,7 +118,7 @@ module _ (job : Job) where
           (λ e. absurd (true≢false (sym (rw e at h))))
           (λ p e.
           let d = drawn_some job m.track on_track on_board w p e in
-          let h' : is_next_wire job m (some p) ≡ true = rw e at h in
+          let h' : is_next_wire job m (Some p) ≡ true = rw e at h in
           let under = ltb-true m.lowest p.top (and_split (is_sound_place job m.track m.earlier m.lined p) (ltb m.lowest p.top) h').1 in
           let lower_still : m.lowest < bottom p = omega (arith, under) in
           rw e

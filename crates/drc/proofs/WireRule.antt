@@ -3,7 +3,7 @@ use Prim.Native.Nat.{ℕ, ◌≤◌, ◌<◌}
 use mathlib.Core.Path.{◌≡◌, sym, ap, ◌∙◌}
 use mathlib.Core.Logic.{⊎_elim}
 use mathlib.Core.Bool.{Bool, true, false, not, ◌&&◌, ◌||◌, true≢false, false≢true}
-use mathlib.Core.Option.{some, some-injective, none-ne-some}
+use Rattle.std.specs.Prelude.{Some}
 use mathlib.Core.List.Memᴰ
 use mathlib.Core.List.{List, [], ◌++◌, append-nil, Memᴰ}
 use native.Mathlib.Omega.{arith}
@@ -29,6 +29,7 @@ use Rattle.drc.specs.Covers.{drawn_by, covers_of}
 use Rattle.drc.specs.Judge.{is_below, is_sound_place, is_sound_wire}
 use Rattle.drc.proofs.FailedTests.{and_fails, or_fails, passes_and_fails}
 use Rattle.drc.proofs.Drawings.{drawn_some, drawn_of_lem, same_track, covers_some, covers_of_lem}
+use Rattle.std.proofs.lemmas.Option.{none-some, same_Some}
 
 -- the number of a wire is that of the net that it draws
 pub number_drawn : {job : Job} {t : ℕ} {w : Wire} {p : Placement} → Draws job t w p → p.net.number ≡ w.number
@@ -45,12 +46,12 @@ module _ (job : Job) (t : ℕ) (earlier : List ℕ) (ws : List Wire) where
   -- what a wire that passes has
   pub record WireKept (w : Wire) : Type 0 where
     pub place : Placement
-    pub found : drawn_by job t w ≡ some place
+    pub found : drawn_by job t w ≡ Some place
     pub allowed : Allowed job.board place.net place.shape
     pub clear : Clear job t place
     pub new : Memᴰ place.net.number (earlier ++ wire_numbers ws) → ⊥
     pub ready : (m : Net) → Memᴰ m job.nets → Precedes m place.net → Memᴰ m.number earlier
-    pub under : (v : Wire) (q : Placement) → Memᴰ v ws → covers_of job v ≡ some q → bottom q < place.top
+    pub under : (v : Wire) (q : Placement) → Memᴰ v ws → covers_of job v ≡ Some q → bottom q < place.top
 
   -- the five tests before the last, by name
   abbrev has_length : Placement → Bool
@@ -68,7 +69,7 @@ module _ (job : Job) (t : ℕ) (earlier : List ℕ) (ws : List Wire) where
       by_option (drawn_by job t w)
       (λ e. absurd (false≢true (rw e at h)))
       (λ p e.
-      let h' : is_sound_wire job t earlier ws (some p) ≡ true = rw e at h in
+      let h' : is_sound_wire job t earlier ws (Some p) ≡ true = rw e at h in
       let a = and_split (has_length p && is_clear job t p && is_fresh p && is_ready job earlier p.net) (is_below_all p) h' in
       let b = and_split (has_length p && is_clear job t p && is_fresh p) (is_ready job earlier p.net) a.0 in
       let c = and_split (has_length p && is_clear job t p) (is_fresh p) b.0 in
@@ -104,20 +105,20 @@ module _ (job : Job) (t : ℕ) (earlier : List ℕ) (ws : List Wire) where
     Broken = WireBreach job t earlier ws ns w
 
     -- any placement that w draws is the one found
-    other : (p q : Placement) → drawn_by job t w ≡ some p → Memᴰ q.net job.nets → Legal job.board q → w ≡ wire_of job.board t q → p ≡ q
-    other p q e i l d = some-injective p q (sym e ∙ drawn_of_lem job t rise w q (draws_legal on_track on_board i l d))
+    other : (p q : Placement) → drawn_by job t w ≡ Some p → Memᴰ q.net job.nets → Legal job.board q → w ≡ wire_of job.board t q → p ≡ q
+    other p q e i l d = same_Some p q (sym e ∙ drawn_of_lem job t rise w q (draws_legal on_track on_board i l d))
 
     -- a test that each legal and clear placement passes
     fails_placed : (f : Placement → Bool) → ((q : Placement) → Legal job.board q → Clear job t q → f q ≡ true) →
-        (p : Placement) → drawn_by job t w ≡ some p → f p ≡ false → Broken
+        (p : Placement) → drawn_by job t w ≡ Some p → f p ≡ false → Broken
     fails_placed f g p e h = not_placed (λ q i l c d. passes_and_fails (f p) (ap f (other p q e i l d) ∙ g q l c) h)
 
-    fails_length : (p : Placement) → drawn_by job t w ≡ some p → has_length p ≡ false → Broken
+    fails_length : (p : Placement) → drawn_by job t w ≡ Some p → has_length p ≡ false → Broken
     fails_length =
         fails_placed has_length (λ q l c. and_both (is_long job.board q) (is_short job.board q)
         ((long_exact job.board q).1 l.allowed.long) ((short_exact job.board q).1 l.allowed.short))
 
-    fails_clear : (p : Placement) → drawn_by job t w ≡ some p → is_clear job t p ≡ false → Broken
+    fails_clear : (p : Placement) → drawn_by job t w ≡ Some p → is_clear job t p ≡ false → Broken
     fails_clear = fails_placed (is_clear job t) (λ q l c. (clear_exact job t q).1 c)
 
     fails_fresh : (p : Placement) → Draws job t w p → is_fresh p ≡ false → Broken
@@ -146,7 +147,7 @@ module _ (job : Job) (t : ℕ) (earlier : List ℕ) (ws : List Wire) where
         (λ x. wrong_order d i g (leb-true p.top q.top x))
         (λ x. let y : q.top < p.top = leb-false p.top q.top x in shared_row p.top d i g (omega arith) (omega arith) (omega arith) l))
 
-    fails_drawn : (p : Placement) → drawn_by job t w ≡ some p → is_sound_wire job t earlier ws (some p) ≡ false → Broken
+    fails_drawn : (p : Placement) → drawn_by job t w ≡ Some p → is_sound_wire job t earlier ws (Some p) ≡ false → Broken
     unfolding is_sound_wire is_sound_place
     fails_drawn p e f =
         let d = drawn_some job t on_track on_board w p e in
@@ -164,7 +165,7 @@ module _ (job : Job) (t : ℕ) (earlier : List ℕ) (ws : List Wire) where
     pub fails_wire : is_sound_wire job t earlier ws (drawn_by job t w) ≡ false → Broken
     fails_wire f =
         by_option (drawn_by job t w)
-        (λ e. not_placed (λ p i l c d. none-ne-some p (sym e ∙ drawn_of_lem job t rise w p (draws_legal on_track on_board i l d))))
+        (λ e. not_placed (λ p i l c d. none-some p (sym e ∙ drawn_of_lem job t rise w p (draws_legal on_track on_board i l d))))
         (λ p e. fails_drawn p e (rw e at f))
 
     -- ---- and only then
@@ -175,7 +176,7 @@ module _ (job : Job) (t : ℕ) (earlier : List ℕ) (ws : List Wire) where
       the_place : (u : ℕ) (p : Placement) → Draws job u w p → k.place ≡ p
       the_place u p d =
           let d' : Draws job t w p = rw (same_track job t u w k.place p drawing d) at d in
-          some-injective k.place p (sym k.found ∙ drawn_of_lem job t rise w p d')
+          same_Some k.place p (sym k.found ∙ drawn_of_lem job t rise w p d')
 
       -- it lies below the wires above it
       lies_under : (i j : ℕ) (p q : Placement) (v : Wire) → Draws job i w p → Memᴰ v ws → Draws job j v q → bottom q < p.top

@@ -1,6 +1,5 @@
 -- The lines at which a rule is broken: document 01, "A sound layout" and "Operations", check, and order 3. Nothing here judges.
-use Rattle.std.specs.Prelude.{ℕ, suc, ◌≤◌, ◌≡◌}
-use Rattle.std.proofs.Math.Option.{Option, none, some}
+use Rattle.std.specs.Prelude.{ℕ, suc, ◌≤◌, ◌≡◌, Option, None, Some}
 use mathlib.Core.List.{List, [], ◌∷◌, ◌++◌, map, Memᴰ}
 use Rattle.board.specs.declared.Net.{Net}
 use Rattle.board.specs.Length.{upper, lower}
@@ -26,7 +25,7 @@ pub record FalseSum (job : Job) (earlier : List ℕ) (u s : ℕ) (ls : List (Opt
   pub wires : List Wire
   pub next : Line
   pub rest : List (Option Line)
-  pub lines_below : ls ≡ map (λ v. some (wire v)) wires ++ some next ∷ rest
+  pub lines_below : ls ≡ map (λ v. Some (wire v)) wires ++ Some next ∷ rest
   pub ends_wires : EndsWires next
   pub can_stand : CanStand job (in_layout u earlier wires []) next
   pub differs : wires_sum job wires ≡ s → ⊥
@@ -95,14 +94,14 @@ pub data BreachFrom (job : Job) : ℕ → Above → List (Option Line) → ℕ �
   -- a rule is broken at a line of the form: a wire that draws no placement which may stand there, a loose line of no net, the later of two
   -- lines that share a row, a net or the wrong order, the wire that another net precedes, the track line of a false sum, the closing line
   -- if a net is missing
-  at_line : {n : ℕ} {a : Above} {x : Line} {ls : List (Option Line)} → LineBreach job a x ls → BreachFrom job n a (some x ∷ ls) n
+  at_line : {n : ℕ} {a : Above} {x : Line} {ls : List (Option Line)} → LineBreach job a x ls → BreachFrom job n a (Some x ∷ ls) n
   -- the judging goes on past a line of the form that can stand there, broken or not
   further_down : {n l : ℕ} {a : Above} {x : Line} {ls : List (Option Line)} →
-      CanStand job a x → BreachFrom job (suc n) (with_line a x) ls l → BreachFrom job n a (some x ∷ ls) l
+      CanStand job a x → BreachFrom job (suc n) (with_line a x) ls l → BreachFrom job n a (Some x ∷ ls) l
   -- a line of the form that cannot stand there is broken, and the judging closes
-  out_of_place : {n : ℕ} {a : Above} {x : Line} {ls : List (Option Line)} → (CanStand job a x → ⊥) → BreachFrom job n a (some x ∷ ls) n
+  out_of_place : {n : ℕ} {a : Above} {x : Line} {ls : List (Option Line)} → (CanStand job a x → ⊥) → BreachFrom job n a (Some x ∷ ls) n
   -- a line not of the form is broken, and the judging closes
-  ill_formed : {n : ℕ} {a : Above} {ls : List (Option Line)} → BreachFrom job n a (none ∷ ls) n
+  ill_formed : {n : ℕ} {a : Above} {ls : List (Option Line)} → BreachFrom job n a (None ∷ ls) n
   -- where the text stops early, the line after the last is broken
   stops_early : {n : ℕ} {a : Above} → (a ≡ behind_layout → ⊥) → BreachFrom job n a [] n
 

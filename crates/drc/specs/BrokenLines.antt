@@ -1,7 +1,6 @@
 -- All broken lines of a layout text, worked out: the judging goes on past a broken line until it closes (order 3). They pin `Breach`
 -- down where the verdict does not look, below the first broken line.
-use Rattle.std.specs.Prelude.{ℕ, suc, cond, List, [], ◌∷◌}
-use Rattle.std.proofs.Math.Option.{Option, none, some}
+use Rattle.std.specs.Prelude.{ℕ, suc, cond, List, [], ◌∷◌, Option, None, Some}
 use Rattle.board.specs.Job.{Job}
 use Rattle.layout.specs.Tree.{Line}
 use Rattle.drc.specs.Standing.{lines_read, Above, before_layout, in_layout, behind_layout, with_line}
@@ -16,8 +15,8 @@ broken_end n behind_layout = []
 -- the broken ones of the lines from line n on, which have a above them
 unfoldable pub broken_from : Job → ℕ → Above → List (Option Line) → List ℕ
 broken_from job n a [] = broken_end n a
-broken_from job n a (none ∷ ls) = n ∷ []
-broken_from job n a (some x ∷ ls) =
+broken_from job n a (None ∷ ls) = n ∷ []
+broken_from job n a (Some x ∷ ls) =
     let rest = broken_from job (suc n) (with_line a x) ls in
     cond (is_in_place job a x) (cond (keeps_rules job a x ls) rest (n ∷ rest)) (n ∷ [])
 

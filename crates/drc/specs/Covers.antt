@@ -1,7 +1,6 @@
 -- The placement that a wire draws, worked out: document 01, "Drawing", and "Operations", check ("a wire that draws no placement of its
 -- net covers no row and has no top").
-use Rattle.std.specs.Prelude.{ℕ, ◌+◌, ◌/◌, Bool, true, false, cond, ◌&&◌, List, [], ◌∷◌, leb}
-use Rattle.std.proofs.Math.Option.{Option, none, some}
+use Rattle.std.specs.Prelude.{ℕ, ◌+◌, ◌/◌, Bool, true, false, cond, ◌&&◌, List, [], ◌∷◌, leb, Option, None, Some}
 use Rattle.board.specs.declared.Board.{Board}
 use Rattle.board.specs.declared.Net.{Net}
 use Rattle.board.specs.Job.{Job}
@@ -27,12 +26,12 @@ is_on_board board p = is_from_one p && is_over_upper p && is_under_lower p && is
 unfoldable pub drawn_of : Board → ℕ → List Point → Net → Option Placement
 drawn_of board t ps n =
     let p = placement_of t n ps in
-    cond (is_on_board board p && same_points (points_on board t p) ps) (some p) none
+    cond (is_on_board board p && same_points (points_on board t p) ps) (Some p) None
 
 -- the placement of a net that the points draw on track t, at any length; none where there is no net
 unfoldable pub drawn_from : Board → ℕ → List Point → Option Net → Option Placement
-drawn_from board t ps none = none
-drawn_from board t ps (some n) = drawn_of board t ps n
+drawn_from board t ps None = None
+drawn_from board t ps (Some n) = drawn_of board t ps n
 
 -- the placement that a wire draws on track t, at any length, if it draws one of its net
 unfoldable pub drawn_by : Job → ℕ → Wire → Option Placement
@@ -48,4 +47,4 @@ track_drawn (p ∷ q ∷ ps) = (q.column + 1) / 2
 unfoldable pub covers_of : Job → Wire → Option Placement
 covers_of job w =
     let t = track_drawn w.points in
-    cond (leb 1 t && leb t job.board.tracks) (drawn_by job t w) none
+    cond (leb 1 t && leb t job.board.tracks) (drawn_by job t w) None

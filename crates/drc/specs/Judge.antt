@@ -1,6 +1,5 @@
 -- The verdict on a layout text: sound, or the first line at which a rule is broken. Document 01, "Operations", check, and order 3.
-use Rattle.std.specs.Prelude.{ℕ, suc, ◌+◌, Bool, true, false, not, cond, ◌&&◌, ◌||◌, List, [], ◌∷◌, ◌++◌, map, eqb, leb, ltb}
-use Rattle.std.proofs.Math.Option.{Option, none, some}
+use Rattle.std.specs.Prelude.{ℕ, suc, ◌+◌, Bool, true, false, not, cond, ◌&&◌, ◌||◌, List, [], ◌∷◌, ◌++◌, map, eqb, leb, ltb, Option, None, Some}
 use Rattle.lists.specs.Lists.{any_of, all_of}
 use Rattle.board.specs.Job.{Job}
 use Rattle.board.specs.Placement.{Placement, bottom}
@@ -53,17 +52,17 @@ is_in_place job behind_layout x = false
 -- the wires, or the line there is not of the form or cannot stand, the sum is not judged
 unfoldable pub is_true_sum : Job → ℕ → ℕ → ℕ → List (Option Line) → Bool
 is_true_sum job t s sum [] = true
-is_true_sum job t s sum (none ∷ ls) = true
-is_true_sum job t s sum (some (wire w) ∷ ls) = is_true_sum job t s (sum + weight_of job w.number) ls
-is_true_sum job t s sum (some opens ∷ ls) = true
-is_true_sum job t s sum (some (track u v) ∷ ls) = not (ends_track job t (track u v)) || eqb sum s
-is_true_sum job t s sum (some (loose k) ∷ ls) = not (ends_track job t (loose k)) || eqb sum s
-is_true_sum job t s sum (some closes ∷ ls) = not (ends_track job t closes) || eqb sum s
+is_true_sum job t s sum (None ∷ ls) = true
+is_true_sum job t s sum (Some (wire w) ∷ ls) = is_true_sum job t s (sum + weight_of job w.number) ls
+is_true_sum job t s sum (Some opens ∷ ls) = true
+is_true_sum job t s sum (Some (track u v) ∷ ls) = not (ends_track job t (track u v)) || eqb sum s
+is_true_sum job t s sum (Some (loose k) ∷ ls) = not (ends_track job t (loose k)) || eqb sum s
+is_true_sum job t s sum (Some closes ∷ ls) = not (ends_track job t closes) || eqb sum s
 
 -- p lies below all rows that a wire above it covers, so that its top row rises and no row is shared
 unfoldable pub is_below : Placement → Option Placement → Bool
-is_below p none = true
-is_below p (some q) = ltb (bottom q) p.top
+is_below p None = true
+is_below p (Some q) = ltb (bottom q) p.top
 
 -- p may stand on track t: its length is allowed, it is clear of blocks, its net has no line above, and every net that precedes its net
 -- stands on an earlier track; `lined` has the numbers of all lines above
@@ -73,8 +72,8 @@ is_sound_place job t earlier lined p =
 
 -- a wire that draws p may stand below the wires ws of track t; one that draws none may not
 unfoldable pub is_sound_wire : Job → ℕ → List ℕ → List Wire → Option Placement → Bool
-is_sound_wire job t earlier ws none = false
-is_sound_wire job t earlier ws (some p) =
+is_sound_wire job t earlier ws None = false
+is_sound_wire job t earlier ws (Some p) =
     is_sound_place job t earlier (earlier ++ wire_numbers ws) p && all_of (λ v. is_below p (covers_of job v)) ws
 
 -- k is the number of a net that has no line above
@@ -111,8 +110,8 @@ at_text_end n behind_layout = sound_text
 -- the verdict on the lines from line n on, which have a above them: the first that is broken
 unfoldable pub judge_from : Job → ℕ → Above → List (Option Line) → Verdict
 judge_from job n a [] = at_text_end n a
-judge_from job n a (none ∷ ls) = broken_at n
-judge_from job n a (some x ∷ ls) =
+judge_from job n a (None ∷ ls) = broken_at n
+judge_from job n a (Some x ∷ ls) =
     let rest = judge_from job (suc n) (with_line a x) ls in
     cond (is_in_place job a x && keeps_rules job a x ls) rest (broken_at n)
 

@@ -1,7 +1,6 @@
 -- The verdict in one pass over the lines, with nothing looked ahead and no wire looked back at: what a loop keeps of the lines above, and
 -- one step of it. proofs/OnePass.antt shows that it is the same verdict.
-use Rattle.std.specs.Prelude.{ℕ, suc, ◌+◌, Bool, false, cond, ◌&&◌, List, [], ◌∷◌, ◌++◌, eqb, ltb}
-use Rattle.std.proofs.Math.Option.{Option, none, some}
+use Rattle.std.specs.Prelude.{ℕ, suc, ◌+◌, Bool, false, cond, ◌&&◌, List, [], ◌∷◌, ◌++◌, eqb, ltb, Option, None, Some}
 use Rattle.lists.specs.Lists.{all_of}
 use Rattle.board.specs.Job.{Job}
 use Rattle.board.specs.Placement.{Placement, bottom}
@@ -35,27 +34,27 @@ pub record Summary : Type 0 where
 
 -- what is kept right behind `(layout`
 abbrev pub empty_summary : Summary
-empty_summary = record { track = 0; line = 0; printed = 0; sum = 0; earlier = []; lined = []; lowest = 0; last = 0; breach = none }
+empty_summary = record { track = 0; line = 0; printed = 0; sum = 0; earlier = []; lined = []; lowest = 0; last = 0; breach = None }
 
 -- what is kept behind line n, a line of track u that prints the sum s
 abbrev pub add_track : ℕ → ℕ → ℕ → Summary → Summary
 add_track n u s m =
-    record { track = u; line = n; printed = s; sum = 0; earlier = m.lined; lined = m.lined; lowest = 0; last = m.last; breach = none }
+    record { track = u; line = n; printed = s; sum = 0; earlier = m.lined; lined = m.lined; lowest = 0; last = m.last; breach = None }
 
 -- a wire that draws p may stand below the lines kept; one that draws none may not
 unfoldable pub is_next_wire : Job → Summary → Option Placement → Bool
-is_next_wire job m none = false
-is_next_wire job m (some p) = is_sound_place job m.track m.earlier m.lined p && ltb m.lowest p.top
+is_next_wire job m None = false
+is_next_wire job m (Some p) = is_sound_place job m.track m.earlier m.lined p && ltb m.lowest p.top
 
 -- the lowest row of a wire that draws a placement, or r if it draws none
 unfoldable pub lowest_of : ℕ → Option Placement → ℕ
-lowest_of r none = r
-lowest_of r (some p) = bottom p
+lowest_of r None = r
+lowest_of r (Some p) = bottom p
 
 -- the line of the first broken wire, where the wire of line n is the last
 unfoldable pub breach_after : Option ℕ → ℕ → Bool → Option ℕ
-breach_after (some l) n passed = some l
-breach_after none n passed = cond passed none (some n)
+breach_after (Some l) n passed = Some l
+breach_after None n passed = cond passed None (Some n)
 
 -- what is kept behind line n, a wire that draws p: broken or not, it counts by its number
 abbrev pub add_wire : Job → ℕ → Wire → Option Placement → Summary → Summary
@@ -100,13 +99,13 @@ pub data PassStep : Type 0 where
 
 -- the judging closes at line n, and the sum of the last track line is not judged: a broken wire above is the verdict, or line n is
 unfoldable pub closed_at : Option ℕ → ℕ → Verdict
-closed_at none n = broken_at n
-closed_at (some l) n = broken_at l
+closed_at None n = broken_at n
+closed_at (Some l) n = broken_at l
 
 -- a broken wire above is the verdict; x where there is none
 unfoldable pub unless_breach : Option ℕ → PassStep → PassStep
-unless_breach none x = x
-unless_breach (some l) x = decides (broken_at l)
+unless_breach None x = x
+unless_breach (Some l) x = decides (broken_at l)
 
 -- where the wires of a track end, its sum is judged, at its track line, then its wires; x where nothing is broken
 unfoldable pub judged_track : Summary → PassStep → PassStep
@@ -138,8 +137,8 @@ pass_ill_formed n finished = broken_at n
 
 -- one step of the pass: line n as it is read
 unfoldable pub pass_step : Job → ℕ → PassState → Option Line → PassStep
-pass_step job n st none = decides (pass_ill_formed n st)
-pass_step job n st (some x) = pass_line job n st x
+pass_step job n st None = decides (pass_ill_formed n st)
+pass_step job n st (Some x) = pass_line job n st x
 
 -- the verdict at the end of the text, where n is the line after the last
 unfoldable pub pass_end : ℕ → PassState → Verdict

@@ -1,6 +1,5 @@
 -- The lines of a layout text, what stands above a line, and which line can stand there: document 01, "Drawing", and order 3.
-use Rattle.std.specs.Prelude.{ℕ, suc, ◌≤◌, ◌≡◌, Bool, true, cond, List, [], ◌∷◌, ◌++◌}
-use Rattle.std.proofs.Math.Option.{Option, none}
+use Rattle.std.specs.Prelude.{ℕ, suc, ◌≤◌, ◌≡◌, Bool, true, cond, List, [], ◌∷◌, ◌++◌, Option, None}
 use Rattle.board.specs.Job.{Job}
 use Rattle.text.specs.Bytes.{is_end, lines}
 use Rattle.layout.specs.Tree.{Wire, Line, opens, track, wire, loose, closes}
@@ -20,7 +19,7 @@ is_ended (b ∷ c ∷ bs) = is_ended (c ∷ bs)
 -- each line as it is read, `none` where it is not of the form; a last line is not of the form unless byte 10 ends it
 unfoldable pub read_each : Bool → List (List ℕ) → List (Option Line)
 read_each ended [] = []
-read_each ended (s ∷ []) = cond ended (read_line s) none ∷ []
+read_each ended (s ∷ []) = cond ended (read_line s) None ∷ []
 read_each ended (s ∷ r ∷ rest) = read_line s ∷ read_each ended (r ∷ rest)
 
 -- the lines of a layout text as they are read

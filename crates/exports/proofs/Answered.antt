@@ -1,63 +1,47 @@
--- What the answer of read stands for: its number, and, where that is 0, an accepted job by value, whose plan is the text's. Assumes nothing.
+-- What the answer of read stands for: the number of a refusal, or an accepted job by value, whose plan is the text's. Assumes nothing.
+use Rattle.std.specs.Prelude.{Ok, Err, MatchResult, sum}
 use Prim.Native.Nat.{ℕ, ◌≤◌}
-use mathlib.Core.Path.{◌≡◌, refl, sym, ap, ◌∙◌}
+use mathlib.Core.Path.{◌≡◌, refl, sym}
 use mathlib.Core.List.{List}
-use native.Mathlib.Omega.{arith}
+use Rattle.board.specs.declared.StoredJob.{StoredJob}
 use Rattle.board.specs.Stored.{job_of}
-use Rattle.jobfile.specs.declared.Answer.{Answer}
+use Rattle.jobfile.specs.declared.Refusal.{Refusal}
 use Rattle.jobfile.specs.Read.{Read, accepted, refused, read_job}
 use Rattle.jobfile.specs.Answers.{number_of, answer_of}
-use Rattle.jobfile.proofs.Accepts.{read_accepted}
-use Rattle.jobfile.proofs.Refusals.{read_refused, fault_from}
-use Rattle.board.specs.Stored.{AcceptedStored}
-use Rattle.board.proofs.StoredJobs.{job_back, stored_accepted}
-use Rattle.planning.specs.Plan.{plan_of}
-use Rattle.planning.specs.Loose.{sum_of_tracks}
+use Rattle.jobfile.proofs.Returned.{given_stored, given_read, given_refused}
 use Rattle.planner.specs.JobPlans.{job_plan_of}
 use Rattle.planner.specs.declared.JobPlan.{JobPlan}
-use Rattle.exports.specs.Exported.{added_up, refusal_of, plan_sum}
+use Rattle.exports.specs.Exported.{refusal_of, plan_sum}
 use Rattle.exports.proofs.Sums.{added_plan, added_most}
 
-pub answer_number : (r : Read) → number_of (answer_of r).outcome ≡ refusal_of r
+-- a job has number 0, a refusal its own
+pub answer_number : (r : Read) → MatchResult (answer_of r) (λ job. 0 ≡ refusal_of r) (λ o. number_of o ≡ refusal_of r)
 unfolding answer_of refusal_of
 answer_number (accepted job) = refl
 answer_number (refused o) = refl
 
--- a text with a number has no plan
-refused_sum : (r : Read) → (refusal_of r ≡ 0 → ⊥) → 0 ≡ plan_sum r
-unfolding refusal_of plan_sum
-refused_sum (accepted job) h = absurd (h refl)
-refused_sum (refused o) h = refl
+-- a refusal has no plan
+pub refused_sum : (r : Read) (o : Refusal) → r ≡ refused o → 0 ≡ plan_sum r
+unfolding plan_sum
+refused_sum r o e = rw e
 
--- a text without a number has an accepted job, and the sum of its plan
-module _ (text : List ℕ) where
-  job_from : (r : Read) → read_job text ≡ r → refusal_of r ≡ 0 → AcceptedStored (answer_of r).job
-  unfolding answer_of refusal_of
-  job_from (accepted job) e z = stored_accepted job (read_accepted text job e)
-  job_from (refused o) e z = absurd (omega (arith, fault_from text o (read_refused text o e).fault))
+module _ (text : List ℕ) (o : Refusal) (e : Err o ≡ answer_of (read_job text)) where
+  pub number_given : number_of o ≡ refusal_of (read_job text)
+  number_given = rw (sym e) at (answer_number (read_job text))
 
-  sum_from : (r : Read) → read_job text ≡ r → refusal_of r ≡ 0 → sum_of_tracks (plan_of (job_of (answer_of r).job)) ≡ plan_sum r
-  unfolding answer_of refusal_of plan_sum
-  sum_from (accepted job) e z = ap (λ j. sum_of_tracks (plan_of j)) (job_back job)
-  sum_from (refused o) e z = absurd (omega (arith, fault_from text o (read_refused text o e).fault))
+  pub none_given : 0 ≡ plan_sum (read_job text)
+  none_given = refused_sum (read_job text) o (given_refused text o e)
 
--- what the code holds: the answer of read, and its number
-module _ (text : List ℕ) (a : Answer) (n : ℕ) (e : a ≡ answer_of (read_job text)) (f : n ≡ number_of a.outcome) where
-  pub number_given : n ≡ refusal_of (read_job text)
-  number_given = f ∙ ap (λ (x : Answer). number_of x.outcome) e ∙ answer_number (read_job text)
+-- an accepted text has number 0, and the sum of its plan
+module _ (text : List ℕ) (job : StoredJob) (e : Ok job ≡ answer_of (read_job text)) where
+  pub accepted_given : 0 ≡ refusal_of (read_job text)
+  unfolding refusal_of
+  accepted_given = rw (given_read text job e)
 
-  pub none_given : (n ≡ 0 → ⊥) → 0 ≡ plan_sum (read_job text)
-  none_given h = refused_sum (read_job text) (λ z. h (number_given ∙ z))
+  module _ (plan : JobPlan) (p : plan ≡ job_plan_of (job_of job)) where
+    pub sums_given : sum plan.sums ≤ 524288
+    sums_given = rw p (added_most (job_of job) (given_stored text job e).accepted)
 
-  module _ (z : n ≡ 0) where
-    pub job_given : AcceptedStored a.job
-    job_given = rw e (job_from text (read_job text) refl (sym number_given ∙ z))
-
-    module _ (plan : JobPlan) (p : plan ≡ job_plan_of (job_of a.job)) where
-      pub sums_given : added_up plan.sums ≤ 524288
-      sums_given = rw p (added_most (job_of a.job) job_given.accepted)
-
-      pub plan_given : added_up plan.sums ≡ plan_sum (read_job text)
-      plan_given =
-          ap (λ (x : JobPlan). added_up x.sums) p ∙ added_plan (job_of a.job) ∙ ap (λ (x : Answer). sum_of_tracks (plan_of (job_of x.job))) e ∙
-          sum_from text (read_job text) refl (sym number_given ∙ z)
+    pub plan_given : sum plan.sums ≡ plan_sum (read_job text)
+    unfolding plan_sum
+    plan_given = rw (p, given_read text job e) (added_plan (job_of job))

@@ -2,7 +2,7 @@
 // and planning it.
 #![tactic(auto)]
 
-ghost use Rattle.std.specs.Prelude.{◌≡◌, ◌≤◌, length, take};
+ghost use Rattle.std.specs.Prelude.{◌≡◌, ℕ, ◌≤◌, length, take, sum, Result};
 ghost use Rattle.jobfile.specs.Read.{read_job};
 ghost use Rattle.jobfile.specs.OfAccepted.{OfAccepted};
 ghost use Rattle.planning.specs.Plan.{plan_of};
@@ -12,12 +12,33 @@ ghost use Rattle.routing.specs.Route.{route_text};
 ghost use Rattle.router.specs.LayoutLength.{LayoutLength};
 ghost use Rattle.house.specs.HouseText.{house_text};
 ghost use Rattle.house.specs.Promises.{IsFixed, FixedLength, ReadsBack, OneText, FixedAgain};
-ghost use Rattle.answers.specs.declared.TextAnswer.{TextAnswer};
+ghost use Rattle.answers.specs.declared.TextRefusal.{TextRefusal};
 ghost use Rattle.answers.specs.Answers.{text_answer, RightFor, buffer_after};
-ghost use Rattle.checker.specs.declared.CheckAnswer.{CheckAnswer};
+ghost use Rattle.checker.specs.declared.CheckError.{CheckError};
 ghost use Rattle.checker.specs.Answers.{check_answer};
 ghost use Rattle.checker.specs.RightVerdict.{RightVerdict};
-ghost use Rattle.exports.specs.Exported.{added_up, refusal_of, plan_sum, one_if, RepliesWith, CheckRepliesWith};
+ghost use Rattle.exports.specs.Exported.{refusal_of, plan_sum, RepliesWith, CheckRepliesWith};
+
+use answers::TextRefusal;
+
+// Hands an answer out in document 01's numbers: the number of the refusal, 0 where the text is written; through `line` the line that it names, 0
+// where it names none; through `bytes` the length of the text, written or needed.
+fn reply(answer: Result<usize, TextRefusal>, line: &mut usize, bytes: &mut usize) -> usize
+    ensures { RepliesWith answer result line.new bytes.new }
+{
+    match answer {
+        Ok(written) => {
+            *line = 0;
+            *bytes = written;
+            0
+        }
+        Err(refusal) => {
+            *line = refusal.line();
+            *bytes = refusal.needed();
+            refusal.number()
+        }
+    }
+}
 
 // Routes a job into a buffer, and answers in document 01's numbers: the number of the refusal, 0 where the layout is written; through
 // `line` the line that it names, 0 where it names none; through `bytes` the length of the layout, written or needed. They are the values
@@ -30,16 +51,13 @@ pub extern "C" fn hankuribo_route(
     bytes: &mut usize,
 ) -> usize
     ensures answer { RepliesWith (text_answer route_text (read_job job.now) (length out.old)) result line.new bytes.new }
-    ensures right { (a : TextAnswer) × (RepliesWith a result line.new bytes.new × RightFor LayoutLength job.now (length out.old) a) }
+    ensures right { (a : Result ℕ TextRefusal) × (RepliesWith a result line.new bytes.new × RightFor LayoutLength job.now (length out.old) a) }
     ensures buffer { out.new ≡ buffer_after route_text (read_job job.now) out.old }
     ensures shortest { result ≡ 0 → OfAccepted (λ j. ShortestText j (plan_of j) (take bytes.new out.new)) (read_job job.now) }
     ensures sound { result ≡ 0 → OfAccepted (λ j. Sound j (take bytes.new out.new)) (read_job job.now) }
     ensures unbeaten { result ≡ 0 → OfAccepted (λ j. UnbeatenText j (take bytes.new out.new)) (read_job job.now) }
 {
-    let answer = router::route(job, out);
-    *line = answers::answer_line(answer);
-    *bytes = answers::answer_bytes(answer);
-    answers::answer_number(answer)
+    reply(router::route(job, out), line, bytes)
 }
 
 // Writes the fixed text of a job into a buffer, and answers in document 01's numbers, as `hankuribo_route` does. Where the number is 0, order
@@ -52,27 +70,14 @@ pub extern "C" fn hankuribo_house(
     bytes: &mut usize,
 ) -> usize
     ensures answer { RepliesWith (text_answer house_text (read_job job.now) (length out.old)) result line.new bytes.new }
-    ensures right { (a : TextAnswer) × (RepliesWith a result line.new bytes.new × RightFor FixedLength job.now (length out.old) a) }
+    ensures right { (a : Result ℕ TextRefusal) × (RepliesWith a result line.new bytes.new × RightFor FixedLength job.now (length out.old) a) }
     ensures buffer { out.new ≡ buffer_after house_text (read_job job.now) out.old }
     ensures fixed { result ≡ 0 → OfAccepted (λ j. IsFixed j (take bytes.new out.new)) (read_job job.now) }
     ensures read_back { result ≡ 0 → OfAccepted (λ j. ReadsBack j (take bytes.new out.new)) (read_job job.now) }
     ensures one_text { result ≡ 0 → OfAccepted (λ j. OneText j (take bytes.new out.new)) (read_job job.now) }
     ensures again { result ≡ 0 → OfAccepted (λ j. FixedAgain (take bytes.new out.new)) (read_job job.now) }
 {
-    let fixed = housestyle::house(job, out);
-    *line = answers::answer_line(fixed);
-    *bytes = answers::answer_bytes(fixed);
-    answers::answer_number(fixed)
-}
-
-// A yes or no as a number.
-fn one_if(yes: bool) -> usize
-    ensures { result ≡ one_if yes }
-{
-    if yes {
-        return 1;
-    }
-    0
+    reply(housestyle::house(job, out), line, bytes)
 }
 
 // Checks a layout for a job, and answers in document 01's words: the number of the refusal, 0 where nothing is refused; through `line`
@@ -86,24 +91,28 @@ pub extern "C" fn hankuribo_check(
     broken: &mut usize,
 ) -> usize
     ensures answer { CheckRepliesWith (check_answer (read_job job.now) layout.now) result line.new broken.new }
-    ensures right { (a : CheckAnswer) × (CheckRepliesWith a result line.new broken.new × RightVerdict job.now layout.now a) }
+    ensures right { (a : Result (Unit {0}) CheckError) × (CheckRepliesWith a result line.new broken.new × RightVerdict job.now layout.now a) }
 {
-    let answer = checker::check(job, layout);
-    *line = checker::check_line(answer);
-    *broken = one_if(checker::is_broken(answer));
-    checker::check_number(answer)
+    match checker::check(job, layout) {
+        Ok(()) => {
+            *line = 0;
+            *broken = 0;
+            0
+        }
+        Err(error) => {
+            *line = error.line();
+            *broken = usize::from(error.is_broken());
+            error.number()
+        }
+    }
 }
 
 // The sums of all tracks, added up.
 fn add_up(sums: &[usize; 128]) -> usize
-    requires { added_up sums.now ≤ 524288 }
-    ensures { result ≡ added_up sums.now }
+    requires { sum sums.now ≤ 524288 }
+    ensures { result ≡ sum sums.now }
 {
-    let mut total = 0;
-    for i in 0..128 {
-        total += sums[i];
-    }
-    total
+    sums.iter().sum()
 }
 
 // Reads a job: the number of its refusal, 0 where it is accepted.
@@ -111,9 +120,10 @@ fn add_up(sums: &[usize; 128]) -> usize
 pub extern "C" fn hankuribo_read(text: &[u8]) -> usize
     ensures answer { result ≡ refusal_of (read_job text.now) }
 {
-    let answer = reader::read(text);
-    let outcome = answer.outcome;
-    jobrules::number_of(outcome)
+    match reader::read(text) {
+        Ok(_) => 0,
+        Err(refusal) => refusal.number(),
+    }
 }
 
 // Reads a job and plans it: the sums of all its tracks, added up; 0 where it is refused.
@@ -121,11 +131,11 @@ pub extern "C" fn hankuribo_read(text: &[u8]) -> usize
 pub extern "C" fn hankuribo_plan(text: &[u8]) -> usize
     ensures answer { result ≡ plan_sum (read_job text.now) }
 {
-    let answer = reader::read(text);
-    let found = answer.outcome;
-    if jobrules::number_of(found) != 0 {
-        return 0;
+    match reader::read(text) {
+        Ok(job) => {
+            let plan = planner::plan_job(&job);
+            add_up(&plan.sums)
+        }
+        Err(_) => 0,
     }
-    let plan = planner::plan_job(&answer.job);
-    add_up(&plan.sums)
 }

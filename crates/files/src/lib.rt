@@ -20,13 +20,6 @@ pub struct FileText {
     pub used: usize,
 }
 
-// The smaller of two numbers.
-fn lesser(a: usize, b: usize) -> usize
-    ensures { (result ≤ a) × (result ≤ b) × ((a ≤ b → result ≡ a) × (b ≤ a → result ≡ b)) }
-{
-    if a < b { a } else { b }
-}
-
 // Reads until the buffer is full, the input ends or a read fails, and returns how many bytes were read. They stand at the start of the
 // buffer, and they are what the reader has given.
 pub fn read_full<R: Read>(reader: &mut R, buf: &mut [u8]) -> usize
@@ -59,7 +52,7 @@ pub fn read_from<R: Read + Drop>(opened: io::Result<R>, out: &mut [u8]) -> usize
     };
     let mut bytes = [0u8; 65536];
     let n = read_full(&mut reader, &mut bytes);
-    let fitting = lesser(n, out.len());
+    let fitting = n.min(out.len());
     text::put_bytes(out, &bytes[..fitting])
 }
 

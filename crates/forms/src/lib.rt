@@ -2,46 +2,35 @@
 // the table of keywords.
 #![tactic(auto)]
 
-ghost use Rattle.std.specs.Prelude.{◌≡◌, ◌≤◌, length, take, drop};
+ghost use Rattle.std.specs.Prelude.{◌≡◌, ◌≤◌, length, drop};
 ghost use Rattle.lines.specs.Tokens.{line_words};
 ghost use Rattle.jobfile.specs.Forms.{no_word, if_last, form_made, form_after, form_opened, read_form};
 ghost use Rattle.forms.specs.Arguments.{argument_at, only_closing, ArgumentsAre};
 
-use jobfile::{Form, Optional};
+use jobfile::Form;
 use keywords::Vocabulary;
 use lines::Token;
-use text::Number;
 
-// What stands where a form may have a number: one, with the byte behind it; a closing bracket, with the byte behind it; or something else.
+// A number of a form, and the byte behind it.
 #[derive(Clone, Copy)]
-enum Argument {
-    Value(usize, usize),
-    Closing(usize),
-    Missing,
+struct Argument {
+    value: usize,
+    next: usize,
 }
 
-// The numbers of a form, so many from the first on; complete where a closing bracket behind them ends the line.
+// The numbers of a form, so many from the first on.
 #[derive(Clone, Copy)]
 struct Arguments {
-    pub complete: bool,
-    pub count: usize,
-    pub numbers: [usize; 6],
+    count: usize,
+    numbers: [usize; 6],
 }
-
-// How many numbers stand behind each keyword of the table: board, rows, tracks, net, block. A net may have one more.
-const COUNTS: [usize; 5] = [0, 1, 1, 5, 3];
 
 // Whether no token is left.
 fn at_end(s: &[u8], at: usize) -> bool
     requires { at ≤ length s.now }
     ensures { result ≡ no_word (line_words (drop at s.now)) }
 {
-    match lines::read_token(s, at) {
-        Token::Nothing => true,
-        Token::Open(_) => false,
-        Token::Shut(_) => false,
-        Token::Word { from: _, to: _ } => false,
-    }
+    lines::read_token(s, at).is_none()
 }
 
 // The form where no token is left, and none of the forms otherwise.
@@ -49,26 +38,19 @@ fn if_last(s: &[u8], at: usize, form: Form) -> Form
     requires { at ≤ length s.now }
     ensures { result ≡ if_last (line_words (drop at s.now)) form }
 {
-    if at_end(s, at) {
-        return form;
-    }
-    Form::Other
+    if at_end(s, at) { form } else { Form::Other }
 }
 
-// The number or the closing bracket at a place.
-fn read_argument(s: &[u8], at: usize) -> Argument
+// The number at a place, where one stands there.
+fn read_argument(s: &[u8], at: usize) -> Option<Argument>
     requires { at ≤ length s.now }
     ensures { result ≡ argument_at s.now at }
 {
-    match lines::read_token(s, at) {
-        Token::Word { from, to } => match text::read_number(&s[from..to], 5) {
-            Number::Value(v) => Argument::Value(v, to),
-            Number::Bad => Argument::Missing,
-        },
-        Token::Shut(next) => Argument::Closing(next),
-        Token::Open(_) => Argument::Missing,
-        Token::Nothing => Argument::Missing,
-    }
+    let Token::Word { from, to } = lines::read_token(s, at)? else {
+        return None;
+    };
+    let value = text::read_number(&s[from..to], 5)?;
+    Some(Argument { value, next: to })
 }
 
 // Whether a closing bracket is the last token.
@@ -77,67 +59,43 @@ fn is_closed(s: &[u8], at: usize) -> bool
     ensures { result ≡ only_closing (line_words (drop at s.now)) }
 {
     match lines::read_token(s, at) {
-        Token::Shut(next) => at_end(s, next),
-        Token::Open(_) => false,
-        Token::Word { from: _, to: _ } => false,
-        Token::Nothing => false,
+        Some(Token::Shut(next)) => at_end(s, next),
+        _ => false,
     }
 }
 
-// The numbers from a place on, six at most, and whether the closing bracket stands behind them.
-fn read_arguments(s: &[u8], at: usize) -> Arguments
+// The numbers from a place on, six at most, where a closing bracket behind them ends the line.
+fn read_arguments(s: &[u8], at: usize) -> Option<Arguments>
     requires { at ≤ length s.now }
     ensures { ArgumentsAre (line_words (drop at s.now)) result }
 {
     let mut numbers = [0usize; 6];
+    let mut count = 0;
     let mut p = at;
-    let mut j = 0;
-    while j < 6 {
-        match read_argument(s, p) {
-            Argument::Value(v, next) => {
-                numbers[j] = v;
-                p = next;
-            }
-            Argument::Closing(next) => {
-                return Arguments {
-                    complete: at_end(s, next),
-                    count: j,
-                    numbers,
-                };
-            }
-            Argument::Missing => {
-                return Arguments {
-                    complete: false,
-                    count: j,
-                    numbers,
-                };
-            }
-        }
-        j += 1;
+    for number in &mut numbers {
+        let Some(Argument { value, next }) = read_argument(s, p) else {
+            break;
+        };
+        *number = value;
+        count += 1;
+        p = next;
     }
-    Arguments {
-        complete: is_closed(s, p),
-        count: j,
-        numbers,
-    }
+    is_closed(s, p).then_some(Arguments { count, numbers })
 }
 
-// The form that keyword i makes of so many numbers.
-fn make_form(i: usize, count: usize, n: [usize; 6]) -> Form
-    requires { (1 ≤ i) × (i ≤ 4) × (count ≤ 6) }
-    ensures { result ≡ form_made i (take count n) }
+// The form that keyword i makes of numbers. A net may have its weight behind the others.
+#[tactic(auto, using(crate::proofs::Forms::made))]
+fn make_form(i: usize, numbers: &[usize]) -> Form
+    ensures { result ≡ form_made i numbers.now }
 {
-    if (i == 3) & (count == 6) {
-        return Form::Net(n[0], n[1], n[2], n[3], n[4], Optional::Written(n[5]));
-    }
-    if count != COUNTS[i] {
-        return Form::Other;
-    }
-    match i {
-        1 => Form::Rows(n[0]),
-        2 => Form::Tracks(n[0]),
-        3 => Form::Net(n[0], n[1], n[2], n[3], n[4], Optional::LeftOut),
-        4 => Form::Block(n[0], n[1], n[2]),
+    match (i, numbers) {
+        (1, [rows]) => Form::Rows(*rows),
+        (2, [tracks]) => Form::Tracks(*tracks),
+        (3, [number, left, right, min, max]) => Form::Net(*number, *left, *right, *min, *max, None),
+        (3, [number, left, right, min, max, weight]) => {
+            Form::Net(*number, *left, *right, *min, *max, Some(*weight))
+        }
+        (4, [track, first, last]) => Form::Block(*track, *first, *last),
         _ => Form::Other,
     }
 }
@@ -150,15 +108,10 @@ fn form_after(s: &[u8], at: usize, i: usize) -> Form
     if i == 0 {
         return if_last(s, at, Form::Board);
     }
-    if 4 < i {
-        return Form::Other;
+    match read_arguments(s, at) {
+        Some(a) => make_form(i, &a.numbers[..a.count]),
+        None => Form::Other,
     }
-    let a = read_arguments(s, at);
-    if !a.complete {
-        return Form::Other;
-    }
-    let numbers = a.numbers;
-    make_form(i, a.count, numbers)
 }
 
 // The form of what stands behind an opening bracket.
@@ -166,14 +119,12 @@ fn form_opened(s: &[u8], at: usize) -> Form
     requires { at ≤ length s.now }
     ensures { result ≡ form_opened (line_words (drop at s.now)) }
 {
-    match lines::read_token(s, at) {
-        Token::Word { from, to } => {
-            let i = keywords::find_word(Vocabulary::Job, &s[from..to]);
-            form_after(s, to, i)
-        }
-        Token::Open(_) => Form::Other,
-        Token::Shut(_) => Form::Other,
-        Token::Nothing => Form::Other,
+    let Some(Token::Word { from, to }) = lines::read_token(s, at) else {
+        return Form::Other;
+    };
+    match keywords::find_word(Vocabulary::Job, &s[from..to]) {
+        Some(i) => form_after(s, to, i),
+        None => Form::Other,
     }
 }
 
@@ -182,9 +133,9 @@ pub fn read_form(s: &[u8]) -> Form
     ensures { result ≡ read_form s.now }
 {
     match lines::read_token(s, 0) {
-        Token::Nothing => Form::Blank,
-        Token::Open(next) => form_opened(s, next),
-        Token::Shut(next) => if_last(s, next, Form::Close),
-        Token::Word { from: _, to: _ } => Form::Other,
+        None => Form::Blank,
+        Some(Token::Open(next)) => form_opened(s, next),
+        Some(Token::Shut(next)) => if_last(s, next, Form::Close),
+        Some(Token::Word { .. }) => Form::Other,
     }
 }

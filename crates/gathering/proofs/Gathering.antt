@@ -1,38 +1,44 @@
--- Gathering net after net: arrays and flags hold the candidates among the nets passed. Assumes nothing.
+-- Gathering net after net: candidates and flags hold the eligible nets among the nets passed. Assumes nothing.
 use Prim.Native.Nat.{ℕ, ◌+◌, ◌*◌, ◌-◌, ◌≤◌, ◌<◌}
 use mathlib.Core.Path.{◌≡◌, refl, sym, ap, ◌∙◌}
-use mathlib.Core.Bool.{Bool, true, false}
+use mathlib.Core.Bool.{Bool, true}
 use mathlib.Core.List.{List, [], ◌∷◌, ◌++◌}
 use native.Mathlib.Omega.{arith}
-use lib.ListN.{length-take, length, get_or, take}
-use lib.Seq.{length-take-le, get_or-take}
+use lib.ListN.{length, get_or, set, take}
+use lib.Seq.{length-take-le}
+use Rattle.std.specs.Prelude.{Option, None, Some}
+use Rattle.std.proofs.lemmas.List.{take_all}
+use Rattle.std.proofs.lemmas.Option.{none-some, cond_some}
+use Rattle.lists.proofs.Cases.{by_test}
 use Rattle.lists.proofs.Places.{take_more}
 use Rattle.board.specs.declared.Net.{Net}
-use Rattle.board.specs.declared.StoredJob.{StoredJob}
 use Rattle.board.specs.declared.Board.{Board}
 use Rattle.board.specs.Length.{shortest}
-use Rattle.board.specs.Accepted.{BoardInRange, AcceptedNet}
-use Rattle.board.specs.Stored.{job_of, no_net}
+use Rattle.board.specs.Job.{Job}
+use Rattle.board.specs.Accepted.{BoardInRange, AcceptedNet, AcceptedJob}
+use Rattle.board.specs.Stored.{no_net}
 use Rattle.board.proofs.ShortestShape.{needed_covered, needed_pos}
 use Rattle.board.proofs.Tops.{accepted_fits, first_top_one, some_top, last_top_room}
 use Rattle.board.specs.Tests.{is_eligible}
-use Rattle.blockmap.specs.Bits.{MapOf}
-use Rattle.blockmap.specs.Clear.{all_unset, flag_tops}
+use Rattle.blockmap.specs.declared.BlockMap.{BlockMap}
+use Rattle.blockmap.specs.Clear.{flag_tops}
 use Rattle.blockmap.proofs.ClearTops.{flags_length}
 use Rattle.candidates.specs.declared.Candidates.{Candidates}
 use Rattle.candidates.specs.declared.NetTops.{NetTops}
-use Rattle.board.specs.Stored.{AcceptedStored}
+use Rattle.candidates.specs.declared.Wired.{Wired}
 use Rattle.candidates.specs.Placed.{eligible_at, preceding_of, placed_numbers}
-use Rattle.candidates.specs.Gathered.{Candidate, candidates_from, candidates_of, TopsOf, arrays_of, on_part, flag_slot, flag_slots, GatheredFrom}
-use Rattle.candidates.proofs.NetBefore.{before_at}
-use Rattle.candidates.proofs.Eligible.{eligible_ready, placed_numbers_lem, same_candidates, candidates_taken, candidates_passed, candidates_length}
+use Rattle.candidates.specs.Gathered.{Eligible, eligible_from, eligible_nets, tops_of, candidates_of, BlocksOf, leave_free, on_part, flag_slot, flag_slots, GatheredFrom}
+use Rattle.candidates.proofs.NetBefore.{accepted_at, preceding_at}
+use Rattle.candidates.proofs.Eligible.{eligible_ready, placed_numbers_lem, same_eligible, eligible_taken, eligible_passed, eligible_length}
 use Rattle.candidates.proofs.FlagParts.{part_length}
-use Rattle.candidates.proofs.Slots.{with_slot, arrays_more, slot_flagged, slots_more, gathered}
+use Rattle.candidates.proofs.Slots.{slots_put, slot_flagged, slots_more, gathered}
+use Rattle.toptable.specs.TopsTable.{tops_if, TableOf}
 
 -- the tops of an accepted net are rows of its part
-pub tops_range : (board : Board) (n : Net) (tops : NetTops) → BoardInRange board → AcceptedNet board n → TopsOf board n tops
-    → (1 ≤ tops.first.0) × (tops.first.0 ≤ tops.last.0) × (1 ≤ tops.need) × (tops.last.0 + tops.need ≤ 1025)
-tops_range board n tops b a t =
+tops_range : (board : Board) (n : Net) → BoardInRange board → AcceptedNet board n → let tops = tops_of board n in
+    (1 ≤ tops.first.0) × (tops.first.0 ≤ tops.last.0) × (1 ≤ tops.need) × (tops.last.0 + tops.need ≤ 1025)
+unfolding tops_of
+tops_range board n b a =
     let s = shortest board n in
     let fit = accepted_fits board n a in
     let one = first_top_one n s in
@@ -41,103 +47,107 @@ tops_range board n tops b a t =
     let same = needed_covered board n in
     let pos = needed_pos board n in
     let rows = b.rows_range in
-    (omega (arith, t.first), omega (arith, t.first, t.last), omega (arith, t.need), omega (arith, t.last, t.need))
+    (omega arith, omega arith, omega arith, omega arith)
 
--- the candidates among the first i nets
-abbrev pub first_candidates : StoredJob → List ℕ → ℕ → List Candidate
-first_candidates s placed i = candidates_from (job_of s) (placed_numbers (job_of s) placed) 0 (take i s.nets)
+-- the eligible nets among the first i
+abbrev pub first_eligible : Job → List (Option Wired) → ℕ → List Eligible
+first_eligible job stands i = eligible_from job (placed_numbers job stands) 0 (take i job.nets)
 
--- after the first i nets; the words are the block map of whatever track they fit
-pub record Passed (s : StoredJob) (placed words before : List ℕ) (found : Candidates) (flags : List ℕ) (i : ℕ) : Type 0 where
-  pub arrays : found ≡ arrays_of s.board (first_candidates s placed i)
+-- after the first i nets; the map has the blocks of whatever track it fits
+pub record Passed (job : Job) (stands : List (Option Wired)) (map : Option BlockMap) (before : List ℕ) (found : Candidates) (flags : List ℕ) (i : ℕ) : Type 0 where
+  pub candidates : found ≡ candidates_of job.board (first_eligible job stands i)
   pub size : length flags ≡ length before
-  pub bytes : (t : ℕ) → MapOf (job_of s) t words
-      → flags ≡ flag_slots (job_of s) t 0 (first_candidates s placed i) before
+  pub bytes : (t : ℕ) → BlocksOf job t map → flags ≡ flag_slots job t 0 (first_eligible job stands i) before
 
-pub passed_none : (s : StoredJob) (placed words before : List ℕ) (found : Candidates) → found ≡ arrays_of s.board []
-    → Passed s placed words before found before 0
-unfolding candidates_from flag_slots
-passed_none s placed words before found e = record { arrays = e; size = refl; bytes = λ t map. refl }
+pub passed_none : (job : Job) (stands : List (Option Wired)) (map : Option BlockMap) (before : List ℕ) (found : Candidates) → found ≡ candidates_of job.board []
+    → Passed job stands map before found before 0
+unfolding eligible_from flag_slots
+passed_none job stands map before found e = record { candidates = e; size = refl; bytes = λ t of. refl }
 
-module _ (s : StoredJob) (accepted : AcceptedStored s) (net_size : length s.nets ≡ 512) (placed words before : List ℕ) (found : Candidates) (flags : List ℕ) (i : ℕ) where
+module _ (job : Job) (accepted : AcceptedJob job) (stands : List (Option Wired)) (map : Option BlockMap) (before : List ℕ) (found : Candidates) (flags : List ℕ) (i : ℕ) where
   -- no more candidates than nets passed, so that there is a slot
-  pub passed_count : i ≤ s.nnets → Passed s placed words before found flags i → found.count ≤ i
-  unfolding arrays_of
+  pub passed_count : i ≤ length job.nets → Passed job stands map before found flags i → found.count ≤ i
+  unfolding candidates_of
   passed_count h p =
-      let r = accepted.nets_room in
-      let e : found.count ≡ length (first_candidates s placed i) = ap (λ c. c.count) p.arrays in
-      omega (arith, candidates_length (job_of s) (placed_numbers (job_of s) placed) (take i s.nets) 0, length-take-le i s.nets (omega arith))
+      let e : found.count ≡ length (first_eligible job stands i) = ap (λ c. c.count) p.candidates in
+      omega (arith, eligible_length job (placed_numbers job stands) (take i job.nets) 0, length-take-le i job.nets (omega arith))
 
-  module _ (h : i < s.nnets) where
+  module _ (h : i < length job.nets) (table : List (Option NetTops)) (of : TableOf job stands table) where
+    abbrev net : Net
+    net = get_or job.nets i no_net
+
     -- the look-up for net i is the test for it
-    lookup : is_eligible (job_of s) (placed_numbers (job_of s) placed) (get_or s.nets i no_net) ≡ eligible_at (get_or (preceding_of (job_of s)) i 0) placed i
+    lookup : is_eligible job (placed_numbers job stands) net ≡ eligible_at (get_or (preceding_of job) i None) stands i
     lookup =
-        let r = accepted.nets_room in
-        let n = get_or s.nets i no_net in
-        let l : i < length (job_of s).nets = omega (arith, length-take-le s.nnets s.nets (omega arith)) in
-        eligible_ready (job_of s) accepted.accepted placed (placed_numbers (job_of s) placed) (placed_numbers_lem (job_of s) placed accepted.accepted) n i l
-        (get_or-take s.nnets s.nets i no_net h)
-        ∙ ap (λ b. eligible_at b placed i) (sym (before_at s accepted net_size i h))
+        eligible_ready job accepted stands (placed_numbers job stands) (placed_numbers_lem job stands accepted) net i h refl
+        ∙ ap (λ b. eligible_at b stands i) (sym (preceding_at job accepted i h))
 
     -- a net that is not eligible
-    pub passed_skip : Passed s placed words before found flags i → eligible_at (get_or (preceding_of (job_of s)) i 0) placed i ≡ false
-        → Passed s placed words before found flags (i + 1)
-    passed_skip p e =
-        let r = accepted.nets_room in
-        let n = get_or s.nets i no_net in
-        let same : first_candidates s placed (i + 1) ≡ first_candidates s placed i =
-        rw (take_more s.nets i no_net (omega arith)) (candidates_passed (job_of s) (placed_numbers (job_of s) placed) (take i s.nets) n 0 (lookup ∙ e)) in
-        record { arrays = rw same p.arrays; size = p.size; bytes = λ t map. rw same (p.bytes t map) }
+    pub passed_skip : get_or table i None ≡ None → Passed job stands map before found flags i → Passed job stands map before found flags (i + 1)
+    unfolding tops_if
+    passed_skip e p =
+        by_test (eligible_at (get_or (preceding_of job) i None) stands i)
+        (λ t. let some : get_or table i None ≡ Some (tops_of job.board net) = rw t at (of i h) in absurd (none-some _ (sym e ∙ some)))
+        (λ t.
+        let same : first_eligible job stands (i + 1) ≡ first_eligible job stands i =
+        rw (take_more job.nets i no_net h) (eligible_passed job (placed_numbers job stands) (take i job.nets) net 0 (lookup ∙ t)) in
+        record { candidates = rw same p.candidates; size = p.size; bytes = λ t fits. rw same (p.bytes t fits) })
 
-    -- an eligible net
-    pub passed_take : s.nnets * 1024 ≤ length before → Passed s placed words before found flags i → eligible_at (get_or (preceding_of (job_of s)) i 0) placed i ≡ true
-        → (tops : NetTops) → TopsOf s.board (get_or s.nets i no_net) tops → (after : List ℕ)
-        → after ≡ on_part found.count (flag_tops (λ top. all_unset words top tops.need) tops.first.0 (tops.last.0 + 1 - tops.first.0)) flags
-        → Passed s placed words before (with_slot found (record { index = i; net = get_or s.nets i no_net }) tops) after (i + 1)
-    unfolding arrays_of
-    passed_take room p e tops is after a =
-        let r = accepted.nets_room in
-        let n = get_or s.nets i no_net in
-        let x : Candidate = record { index = i; net = n } in
-        let xs = first_candidates s placed i in
-        let k : found.count ≡ length xs = ap (λ c. c.count) p.arrays in
-        let few : found.count ≤ i = passed_count (omega arith) p in
-        let here : 0 + length (take i s.nets) ≡ i = omega (arith, length-take-le i s.nets (omega arith)) in
-        let more : first_candidates s placed (i + 1) ≡ xs ++ (x ∷ []) =
-        rw (take_more s.nets i no_net (omega arith))
-        (rw here at (candidates_taken (job_of s) (placed_numbers (job_of s) placed) (take i s.nets) n 0 (lookup ∙ e))) in
-        let part : found.count * 1024 + 1024 ≤ length flags = omega (arith, p.size) in
-        let first = tops.first.0 in
-        let count = tops.last.0 + 1 - tops.first.0 in
-        let test : ℕ → Bool = λ top. all_unset words top tops.need in
-        record {
-          arrays = rw more (arrays_more s.board found xs x tops p.arrays (omega arith) is);
-          size = ap length a ∙ part_length found.count (flag_tops test first count) flags (flags_length test first count) part ∙ p.size;
-          bytes = λ t map.
-              let z : found.count ≡ 0 + length xs = omega arith in
-              rw more
-              (a ∙ slot_flagged (job_of s) t words map x tops is found.count flags
-              ∙ ap (λ m. flag_slot (job_of s) t m x flags) z
-              ∙ ap (λ f. flag_slot (job_of s) t (0 + length xs) x f) (p.bytes t map)
-              ∙ sym (slots_more (job_of s) t 0 xs x before));
-        }
+    module _ (tops : NetTops) (e : get_or table i None ≡ Some tops) where
+      -- an eligible net
+      is : (eligible_at (get_or (preceding_of job) i None) stands i ≡ true) × (tops_of job.board net ≡ tops)
+      unfolding tops_if
+      is = cond_some _ _ _ (sym (of i h) ∙ e)
+
+      pub found_range : (1 ≤ tops.first.0) × (tops.first.0 ≤ tops.last.0) × (1 ≤ tops.need) × (tops.last.0 + tops.need ≤ 1025)
+      found_range = rw is.1 at (tops_range job.board net accepted.board_range (accepted_at job accepted i h))
+
+      pub passed_take : length job.nets * 1024 ≤ length before → Passed job stands map before found flags i → (after : List ℕ)
+          → after ≡ on_part found.count (flag_tops (λ top. leave_free map top tops.need) tops.first.0 (tops.last.0 + 1 - tops.first.0)) flags
+          → Passed job stands map before (record { count = found.count + 1; slots = set found.slots found.count (record { net = i; tops = tops }) }) after (i + 1)
+      unfolding candidates_of
+      passed_take room p after a =
+          let x : Eligible = record { index = i; net = net } in
+          let xs = first_eligible job stands i in
+          let few = accepted.nets_count in
+          let k : found.count ≡ length xs = ap (λ c. c.count) p.candidates in
+          let low : found.count ≤ i = passed_count (omega arith) p in
+          let here : 0 + length (take i job.nets) ≡ i = omega (arith, length-take-le i job.nets (omega arith)) in
+          let more : first_eligible job stands (i + 1) ≡ xs ++ (x ∷ []) =
+          rw (take_more job.nets i no_net h)
+          (rw here at (eligible_taken job (placed_numbers job stands) (take i job.nets) net 0 (lookup ∙ is.0))) in
+          let part : found.count * 1024 + 1024 ≤ length flags = omega (arith, p.size) in
+          let first = tops.first.0 in
+          let count = tops.last.0 + 1 - tops.first.0 in
+          let test : ℕ → Bool = λ top. leave_free map top tops.need in
+          record {
+            candidates = rw (more, ← is.1) (slots_put job.board found xs x p.candidates (omega arith));
+            size = ap length a ∙ part_length found.count (flag_tops test first count) flags (flags_length test first count) part ∙ p.size;
+            bytes = λ t fits.
+                let z : found.count ≡ 0 + length xs = omega arith in
+                rw more
+                ((rw (← is.1) at a) ∙ slot_flagged job t map fits x found.count flags
+                ∙ ap (λ m. flag_slot job t m x flags) z
+                ∙ ap (λ f. flag_slot job t (0 + length xs) x f) (p.bytes t fits)
+                ∙ sym (slots_more job t 0 xs x before));
+          }
 
   -- after all nets
-  pub passed_all : (t : ℕ) → MapOf (job_of s) t words → s.nnets * 1024 ≤ length before → i ≤ s.nnets → s.nnets ≤ i
-      → Passed s placed words before found flags i → GatheredFrom (job_of s) placed t before found flags
-  unfolding candidates_of
-  passed_all t map room a b p =
-      let e : i ≡ s.nnets = omega arith in
-      let all = placed_numbers (job_of s) placed in
-      let arrays : found ≡ arrays_of s.board (candidates_of (job_of s) all) = rw e at p.arrays in
-      let bytes : flags ≡ flag_slots (job_of s) t 0 (candidates_of (job_of s) all) before = rw e at (p.bytes t map) in
+  pub passed_all : (t : ℕ) → BlocksOf job t map → length job.nets * 1024 ≤ length before → length job.nets ≤ i
+      → Passed job stands map before found flags i → GatheredFrom job stands t before found flags
+  unfolding eligible_nets
+  passed_all t fits room l p =
+      let e = take_all i job.nets l in
+      let all = placed_numbers job stands in
+      let c : found ≡ candidates_of job.board (eligible_nets job all) = rw e at p.candidates in
+      let bytes : flags ≡ flag_slots job t 0 (eligible_nets job all) before = rw e at (p.bytes t fits) in
       record {
-        arrays = arrays;
+        candidates = c;
         bytes = bytes;
         gathered = λ earlier is.
-            let same : candidates_of (job_of s) all ≡ candidates_of (job_of s) earlier =
-            same_candidates (job_of s) accepted.accepted placed all earlier (placed_numbers_lem (job_of s) placed accepted.accepted) is in
-            gathered (job_of s) earlier t found before flags accepted.accepted (omega (arith, length-take s.nnets s.nets))
-            (arrays ∙ ap (λ xs. arrays_of s.board xs) same)
-            (bytes ∙ ap (λ xs. flag_slots (job_of s) t 0 xs before) same);
+            let same : eligible_nets job all ≡ eligible_nets job earlier =
+            same_eligible job accepted stands all earlier (placed_numbers_lem job stands accepted) is in
+            gathered job earlier t found before flags accepted room
+            (c ∙ ap (λ xs. candidates_of job.board xs) same)
+            (bytes ∙ ap (λ xs. flag_slots job t 0 xs before) same);
       }

@@ -1,87 +1,87 @@
 // Gathers the candidates for a track: its eligible nets, with what the choice needs of each.
 #![tactic(auto)]
 
-ghost use Rattle.std.specs.Prelude.{◌*◌, ◌≡◌, false, [], ℕ, ◌+◌, ◌-◌, ◌≤◌, ◌<◌, length};
+ghost use Rattle.std.specs.Prelude.{◌*◌, ◌≡◌, [], ◌+◌, ◌-◌, ◌≤◌, length};
 ghost use Rattle.board.specs.declared.Board.{Board};
 ghost use Rattle.board.specs.Stored.{job_of, AcceptedStored};
-ghost use Rattle.blockmap.specs.Bits.{is_set};
-ghost use Rattle.blockmap.specs.Clear.{all_unset, flag_tops};
+ghost use Rattle.blockmap.specs.Clear.{flag_tops};
 ghost use Rattle.candidates.specs.Placed.{preceding_of};
-ghost use Rattle.candidates.specs.Gathered.{arrays_of, on_part, GatheredFrom};
+ghost use Rattle.candidates.specs.Gathered.{candidates_of, leave_free, on_part, GatheredFrom};
 
 use blockmap::BlockMap;
-use board::{Net, StoredJob, Track};
-use candidates::{Candidates, NetTops, block_map, has_blocks};
-use toptable::{tops_in, tops_table};
+use board::{Row, StoredJob, Track};
+use candidates::{Candidate, Candidates, NetTops, Wired, block_map, has_blocks};
+use toptable::tops_table;
 
-// Flags the tops of candidate i: part i of the flags is lent to the search for tops. `any` tells whether the track has a block; where it
-// has none, no row is scanned.
-fn flag_part(map: BlockMap, any: bool, tops: NetTops, i: usize, flags: &mut [u8])
-    requires row_value { any ≡ false → (row : ℕ) → is_set map.words row ≡ false }
+// Flags the tops of candidate i: part i of the flags is lent to the search for tops. Where the track has no block, no row is scanned.
+fn flag_part(map: Option<BlockMap>, tops: NetTops, i: usize, flags: &mut [u8])
     requires le_first { (1 ≤ tops.first.0) × (tops.first.0 ≤ tops.last.0) × (1 ≤ tops.need) × (tops.last.0 + tops.need ≤ 1025) }
     requires i_bound { i * 1024 + 1024 ≤ length flags.old }
-    ensures { flags.new ≡ on_part i (flag_tops (λ top. all_unset map.words top tops.need) tops.first.0 (tops.last.0 + 1 - tops.first.0)) flags.old }
+    ensures { flags.new ≡ on_part i (flag_tops (λ top. leave_free map top tops.need) tops.first.0 (tops.last.0 + 1 - tops.first.0)) flags.old }
 {
     let from = i * 1024;
     let to = from + 1024;
-    if any {
-        blockmap::clear_tops(map, tops.first, tops.last, tops.need, &mut flags[from..to]);
-    } else {
-        blockmap::all_tops(tops.first, tops.last, &mut flags[from..to]);
+    match map {
+        Some(map) => blockmap::clear_tops(
+            map,
+            tops.first,
+            tops.last,
+            tops.need,
+            &mut flags[from..to],
+        ),
+        None => blockmap::all_tops(tops.first, tops.last, &mut flags[from..to]),
     }
 }
 
 // No candidate.
+#[tactic(auto, unfolding(candidates::specs::Gathered::candidates_of, candidates::specs::Placed::padded))]
 fn no_candidates() -> Candidates
-    ensures { (board : Board) → result ≡ arrays_of board [] }
+    ensures { (board : Board) → result ≡ candidates_of board [] }
 {
-    let zeros = [0usize; 512];
+    let tops = NetTops {
+        need: 0,
+        weight: 0,
+        first: Row(0),
+        last: Row(0),
+    };
     Candidates {
         count: 0,
-        net: zeros,
-        need: zeros,
-        weight: zeros,
-        first: zeros,
-        last: zeros,
+        slots: [Candidate { net: 0, tops }; 512],
     }
 }
 
-// The candidates for a track, where placed[k] is the track of net k, or 0. Candidate i has part i of the flags, 1,024 bytes long: byte
-// top − 1 of it is 1 if the candidate is clear of blocks with its top there, otherwise 0.
+// The candidates for a track, where stands[k] tells where the wire of net k stands. Candidate i has part i of the flags, 1,024 bytes long:
+// byte top − 1 of it is 1 if the candidate is clear of blocks with its top there, otherwise 0.
 pub fn gather(
     job: &StoredJob,
-    before: &[usize; 512],
-    placed: &[usize; 512],
+    before: &[Option<usize>; 512],
+    stands: &[Option<Wired>; 512],
     track: Track,
     flags: &mut [u8],
 ) -> Candidates
     requires accepted_stored { AcceptedStored job.now }
     requires before_value { before.now ≡ preceding_of (job_of job.now) }
     requires in_bounds { job.now.nnets * 1024 ≤ length flags.old }
-    ensures { GatheredFrom (job_of job.now) placed.now track.0 flags.old result flags.new }
+    ensures { GatheredFrom (job_of job.now) stands.now track.0 flags.old result flags.new }
 {
-    // Lent as a slice only to tell the proof that the job has 512 slots for nets.
-    let _nets: &[Net] = &job.nets;
-    let any = has_blocks(job, track);
-    let map = block_map(job, track);
-    let table = tops_table(job, before, placed);
+    let nets = &job.nets[..job.nnets];
+    let map = if has_blocks(job, track) {
+        Some(block_map(job, track))
+    } else {
+        None
+    };
+    let table = tops_table(job, before, stands);
     let mut found = no_candidates();
-    let mut next = 0;
-    while next < job.nnets {
-        let i = next;
-        next += 1;
-        if table[i] == 0 {
-            continue;
+    for (i, slot) in table[..nets.len()].iter().enumerate() {
+        if let Some(tops) = slot {
+            let at = found.count;
+            flag_part(map, *tops, at, flags);
+            found.slots[at] = Candidate {
+                net: i,
+                tops: *tops,
+            };
+            found.count = at + 1;
         }
-        let tops = tops_in(&table, i);
-        let at = found.count;
-        flag_part(map, any, tops, at, flags);
-        found.net[at] = i;
-        found.need[at] = tops.need;
-        found.weight[at] = tops.weight;
-        found.first[at] = tops.first.0;
-        found.last[at] = tops.last.0;
-        found.count = at + 1;
     }
     found
 }

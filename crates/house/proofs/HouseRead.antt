@@ -1,5 +1,6 @@
 -- The fixed text of an accepted job is read as that job with its blocks in order, and two accepted jobs have the same text exactly where they
 -- agree in board and nets and hold the same blocks equally often. Assumes nothing.
+use Rattle.std.specs.Prelude.{Option, None, Some}
 use Prim.Native.Nat.{ℕ, suc, ◌+◌, ◌*◌, ◌≤◌, ◌<◌}
 use mathlib.Core.Path.{◌≡◌, refl, sym, ap, subst, ◌∙◌}
 use mathlib.Core.Logic.{◌↔◌, ⊎_elim}
@@ -24,11 +25,9 @@ use Rattle.board.specs.declared.Block.{Block}
 use Rattle.board.specs.Length.{upper, lower, span, plain_length, shortest, needed}
 use Rattle.board.specs.Job.{Job}
 use Rattle.board.specs.Accepted.{BoardInRange, BlockInRange, AcceptedNet, AcceptedJob}
-use Rattle.jobfile.specs.declared.Optional.{Optional}
-use Rattle.jobfile.specs.declared.Optional.TheVariants.{LeftOut, Written}
 use Rattle.jobfile.specs.declared.Form.TheVariants as Is
-use Rattle.jobfile.specs.declared.Outcome.{Outcome}
-use Rattle.jobfile.specs.Forms.{no_word, if_last, form_after, form_opened, form_of, read_form}
+use Rattle.jobfile.specs.declared.Refusal.{Refusal}
+use Rattle.jobfile.specs.Forms.{no_word, if_last, form_after, form_found, form_opened, form_of, read_form}
 use Rattle.jobfile.specs.Read.{start, filled, Next, go, unless, at_start, at_opened, at_sized, at_filled, net_of, weight_given, net_given, board_of, empty_job, last_number, pins_free, test_net, is_above, add_net, add_block, step, accepted, ended, follow, read_from, read_job}
 use Rattle.jobfile.specs.Faults.{WeightInRange}
 use Rattle.jobfile.proofs.Tests.{within_is, differ_is, net_range_is, block_range_is, last_net, free_is, length_is}
@@ -44,8 +43,8 @@ written_only : (board : Board) (n : Net) → AcceptedNet board n → (n.weight �
 written_only board n a d = ⊎_elim (λ (q : n.weight ≡ needed board n). absurd (d q)) (λ (h : (1 ≤ n.weight) × (n.weight ≤ 999)). h) a.weight_is
 
 -- what holds of it, where it is left out and where it is written
-by_weight : (P : Optional → Type 0) (board : Board) (n : Net) → AcceptedNet board n → (n.weight ≡ needed board n → P LeftOut) →
-    ((1 ≤ n.weight) × (n.weight ≤ 999) → P (Written n.weight)) → P (weight_written board n)
+by_weight : (P : Option ℕ → Type 0) (board : Board) (n : Net) → AcceptedNet board n → (n.weight ≡ needed board n → P None) →
+    ((1 ≤ n.weight) × (n.weight ≤ 999) → P (Some n.weight)) → P (weight_written board n)
 unfolding weight_written
 by_weight P board n a f g =
     by_test (eqb n.weight (needed board n))
@@ -73,7 +72,7 @@ given_back board n a =
 abbrev job_with : Board → List Net → List Block → Job
 job_with board ns bs = record { board = board; nets = ns; blocks = bs }
 
-passed : (b : Bool) (o : Outcome) (x y : Next) → b ≡ true → x ≡ y → unless b o x ≡ y
+passed : (b : Bool) (o : Refusal) (x y : Next) → b ≡ true → x ≡ y → unless b o x ≡ y
 unfolding unless
 passed b o x y e q = rw e q
 
@@ -126,9 +125,9 @@ net_small most m board n b a =
 numbers_count : (board : Board) (n : Net) → length (net_numbers n (weight_written board n)) ≤ 6
 numbers_count board n = count (weight_written board n)
   where
-    count : (w : Optional) → length (net_numbers n w) ≤ 6
-    count LeftOut = omega arith
-    count (Written x) = omega arith
+    count : (w : Option ℕ) → length (net_numbers n w) ≤ 6
+    count None = omega arith
+    count (Some x) = omega arith
 
 block_small : (board : Board) (b : Block) → BoardInRange board → BlockInRange board b → Each (λ x. x < 100000) (block_numbers b)
 block_small board b c r = (omega arith, (omega arith, (omega arith, tt)))
@@ -193,7 +192,7 @@ text_length (l ∷ ls) a = omega (arith, length-append l (10 ∷ ended_lines ls)
 -- ---- the whole text
 
 board_form : read_form (opening_line board_word) ≡ Is.Board
-unfolding opening_line read_form form_of form_opened form_after if_last no_word line_words spaced pieces joined non_empty find_word find_from same
+unfolding opening_line read_form form_of form_opened form_found form_after if_last no_word line_words spaced pieces joined non_empty find_word find_from same
 board_form = refl
 
 close_form : read_form closing_line ≡ Is.Close

@@ -1,4 +1,5 @@
 -- What house promises, from its answer and its buffer by equation. Assumes nothing.
+use Rattle.std.specs.Prelude.{Result}
 use Prim.Native.Nat.{ℕ}
 use mathlib.Core.Path.{◌≡◌, refl}
 use mathlib.Core.List.{List}
@@ -10,12 +11,12 @@ use Rattle.house.specs.HouseText.{house_text}
 use Rattle.house.specs.Promises.{IsFixed, FixedLength, ReadsBack, OneText, FixedAgain}
 use Rattle.house.proofs.HouseRead.{house_short}
 use Rattle.house.proofs.Promised.{house_back, house_one, house_again}
-use Rattle.answers.specs.declared.TextAnswer.{TextAnswer}
+use Rattle.answers.specs.declared.TextRefusal.{TextRefusal}
 use Rattle.answers.specs.Answers.{answer_values, document_values, text_answer, RightFor, buffer_after, OfWritten}
 use Rattle.answers.proofs.Answering.{Given, values_given, right_given, held_given}
 
 -- all that house promises of its answer and of the buffer afterwards
-abbrev pub Promised : List ℕ → List ℕ → TextAnswer → List ℕ → Type 0
+abbrev pub Promised : List ℕ → List ℕ → Result ℕ TextRefusal → List ℕ → Type 0
 Promised file before r after =
     record {
       answer : r ≡ text_answer house_text (read_job file) (length before);
@@ -28,7 +29,7 @@ Promised file before r after =
       again : OfWritten (λ j text. FixedAgain text) (read_job file) r after;
     }
 
-pub promised : (file before : List ℕ) {r : TextAnswer} {after : List ℕ} → Given house_text file before r after → Promised file before r after
+pub promised : (file before : List ℕ) {r : Result ℕ TextRefusal} {after : List ℕ} → Given house_text file before r after → Promised file before r after
 promised file before g =
     let held : (P : Job → List ℕ → Type 0) → ((job : Job) → AcceptedJob job → P job (house_text job)) → OfWritten P (read_job file) _ _ = held_given house_text file before g in
     record {

@@ -11,12 +11,15 @@ use Rattle.joblines.specs.Lines.{ended}
 unfoldable pub top_text : Board → List ℕ
 top_text board = ended (opening_line board_word) ++ (ended (inner_line rows_word (board.rows ∷ [])) ++ ended (inner_line tracks_word (board.tracks ∷ [])))
 
+-- the lines of records, one behind another
+unfoldable pub lines_text : {A : Type 0} → (A → List ℕ) → List A → List ℕ
+lines_text line [] = []
+lines_text line (x ∷ xs) = ended (line x) ++ lines_text line xs
+
 -- the lines of nets
-unfoldable pub nets_text : Board → List Net → List ℕ
-nets_text board [] = []
-nets_text board (n ∷ ns) = ended (net_line board n) ++ nets_text board ns
+abbrev pub nets_text : Board → List Net → List ℕ
+nets_text board = lines_text (net_line board)
 
 -- the lines of blocks
-unfoldable pub blocks_text : List Block → List ℕ
-blocks_text [] = []
-blocks_text (b ∷ bs) = ended (block_line b) ++ blocks_text bs
+abbrev pub blocks_text : List Block → List ℕ
+blocks_text = lines_text block_line

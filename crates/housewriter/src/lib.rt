@@ -1,12 +1,11 @@
 // The fixed text of a job, written into a lent buffer part by part: the board, the nets, the blocks in order, the last line.
 #![tactic(auto)]
 
-ghost use Rattle.std.specs.Prelude.{map, ◌+◌, ◌≤◌, length, take};
+ghost use Rattle.std.specs.Prelude.{◌+◌, ◌≤◌, length};
 ghost use Rattle.text.specs.Written.{Written, WrittenAt};
 ghost use Rattle.board.specs.Stored.{job_of, AcceptedStored};
 ghost use Rattle.house.specs.Blocks.{sort_blocks};
 ghost use Rattle.house.specs.HouseText.{house_text};
-ghost use Rattle.blocksort.specs.Keys.{key_block};
 ghost use Rattle.housewriter.specs.Parts.{top_text, nets_text, blocks_text};
 
 use board::{Board, StoredJob};
@@ -18,8 +17,8 @@ fn put_top(out: &mut [u8], board: Board) -> usize
     ensures { WrittenAt 0 (top_text board) out.old out.new result }
 {
     let a = linewriter::put_opening(out, 0, Vocabulary::Job);
-    let b = joblines::put_size(out, a, 1, board.rows);
-    joblines::put_size(out, b, 2, board.tracks)
+    let b = a + joblines::size_line(&mut out[a..], 1, board.rows);
+    b + joblines::size_line(&mut out[b..], 2, board.tracks)
 }
 
 // Writes the lines of the nets, in their order, which is by rising number.
@@ -29,23 +28,8 @@ fn put_nets(out: &mut [u8], at: usize, job: &StoredJob) -> usize
     ensures { WrittenAt at (nets_text job.now.board (job_of job.now).nets) out.old out.new result }
 {
     let mut next = at;
-    for i in 0..job.nnets {
-        next = joblines::put_net(out, next, job.board, job.nets[i]);
-    }
-    next
-}
-
-// Writes the lines of the blocks whose keys are the first `count`.
-fn put_keys(out: &mut [u8], at: usize, keys: &[usize], count: usize) -> usize
-    requires count_in_bounds { count ≤ length keys.now }
-    requires keys_in_bounds { at + length (blocks_text (map key_block (take count keys.now))) ≤ length out.old }
-    ensures { WrittenAt at (blocks_text (map key_block (take count keys.now))) out.old out.new result }
-{
-    let mut next = at;
-    for i in 0..count {
-        let key = keys[i];
-        let block = blocksort::key_block(key);
-        next = joblines::put_block(out, next, block);
+    for net in &job.nets[..job.nnets] {
+        next += joblines::net_line(&mut out[next..], job.board, *net);
     }
     next
 }
@@ -56,9 +40,12 @@ fn put_blocks(out: &mut [u8], at: usize, job: &StoredJob) -> usize
     requires job_in_bounds { at + length (blocks_text (sort_blocks (job_of job.now).blocks)) ≤ length out.old }
     ensures { WrittenAt at (blocks_text (sort_blocks (job_of job.now).blocks)) out.old out.new result }
 {
-    let mut keys = [0usize; 256];
-    blocksort::sort_keys(job, &mut keys);
-    put_keys(out, at, &keys, job.nblocks)
+    let blocks = blocksort::sorted_blocks(job);
+    let mut next = at;
+    for block in &blocks[..job.nblocks] {
+        next += joblines::block_line(&mut out[next..], *block);
+    }
+    next
 }
 
 // Writes the fixed text of a job at the start of out, and returns its length.

@@ -1,4 +1,5 @@
 -- Every job that read gives is accepted. Assumes nothing.
+use Rattle.std.specs.Prelude.{Option, None, Some}
 use Prim.Native.Nat.{ℕ, ◌≤◌, ◌<◌}
 use mathlib.Core.Path.{◌≡◌, refl}
 use mathlib.Core.Logic.{◌⊎◌, inl, inr, ⊎_elim}
@@ -19,12 +20,10 @@ use Rattle.board.specs.Job.{Job}
 use Rattle.board.specs.Length.{upper, lower, span, plain_length, length_of, shortest, needed}
 use Rattle.board.specs.Accepted.{AcceptedJob, AcceptedNet}
 use Rattle.text.specs.Bytes.{lines}
-use Rattle.jobfile.specs.declared.Optional.{Optional}
-use Rattle.jobfile.specs.declared.Optional.TheVariants.{LeftOut, Written}
 use Rattle.jobfile.specs.declared.Form.{Form}
 use Rattle.jobfile.specs.declared.Form.TheVariants as Is
-use Rattle.jobfile.specs.declared.Outcome.{Outcome}
-use Rattle.jobfile.specs.declared.Outcome.TheVariants.{TooLong, NotOfForm}
+use Rattle.jobfile.specs.declared.Refusal.{Refusal}
+use Rattle.jobfile.specs.declared.Refusal.TheVariants.{TooLong, NotOfForm}
 use Rattle.jobfile.specs.Forms.{read_form}
 use Rattle.jobfile.specs.Read.{State, start, opened, sized, filled, closed, Next, go, stop, unless, at_start, at_opened, at_sized, at_filled, weight_given, net_given, block_of, board_of, empty_job, with_net, with_block, net_in_range, block_in_range, last_number, pins_free, test_net, is_above, add_net, add_block, step, Read, accepted, refused, ended, follow, read_from, read_job}
 use Rattle.jobfile.specs.Faults.{WeightInRange}
@@ -43,13 +42,13 @@ AcceptedState (closed job) = AcceptedJob job
 abbrev Gives : Next → Type 0
 Gives x = (s : State) → x ≡ go s → AcceptedState s
 
-stop_gives : (o : Outcome) → Gives (stop o)
+stop_gives : (o : Refusal) → Gives (stop o)
 stop_gives o s e = absurd (let z : ◌≡◌ {A = ℕ} 0 1 = cc in omega arith)
 
 go_gives : (s : State) → AcceptedState s → Gives (go s)
 go_gives s g t e = let q : s ≡ t = cc in rw q at g
 
-unless_gives : (b : Bool) (o : Outcome) (x : Next) → (b ≡ true → Gives x) → Gives (unless b o x)
+unless_gives : (b : Bool) (o : Refusal) (x : Next) → (b ≡ true → Gives x) → Gives (unless b o x)
 unfolding unless
 unless_gives true o x f = f refl
 unless_gives false o x f = stop_gives o
@@ -70,13 +69,13 @@ abbrev pub Weighs : Board → Net → Type 0
 Weighs board n = (n.weight ≡ needed board n) ⊎ ((1 ≤ n.weight) × (n.weight ≤ 999))
 
 -- that of a line, where it is in range
-pub given_weighs : (board : Board) (i l r lo hi : ℕ) (w : Optional) → WeightInRange w → Weighs board (net_given board i l r lo hi w)
+pub given_weighs : (board : Board) (i l r lo hi : ℕ) (w : Option ℕ) → WeightInRange w → Weighs board (net_given board i l r lo hi w)
 unfolding weight_given needed shortest plain_length span upper lower
-given_weighs board i l r lo hi LeftOut h = inl refl
-given_weighs board i l r lo hi (Written w) h = inr h
+given_weighs board i l r lo hi None h = inl refl
+given_weighs board i l r lo hi (Some w) h = inr h
 
 -- a net that passes 3, 7, 8 and 9 is accepted, whatever number 5 asks of it
-pub net_passed : (board : Board) (n : Net) (w : Optional) → (WeightInRange w → Weighs board n) → net_in_range board n w ≡ true →
+pub net_passed : (board : Board) (n : Net) (w : Option ℕ) → (WeightInRange w → Weighs board n) → net_in_range board n w ≡ true →
     not (eqb n.left.0 n.right.0) ≡ true → leb (length_of board n (shortest board n)) n.max ≡ true →
     leb (needed board n) board.rows ≡ true → AcceptedNet board n
 net_passed board n w weighs ranges differ allowed fits =
@@ -91,7 +90,7 @@ net_passed board n w weighs ranges differ allowed fits =
       weight_is = weighs r.1;
     }
 
-module _ (k : ℕ) (job : Job) (n : Net) (w : Optional) (weighs : WeightInRange w → Weighs job.board n) (a : AcceptedJob job) where
+module _ (k : ℕ) (job : Job) (n : Net) (w : Option ℕ) (weighs : WeightInRange w → Weighs job.board n) (a : AcceptedJob job) where
   record Facts : Type 0 where
     ranges : net_in_range job.board n w ≡ true
     few : ltb (length job.nets) 512 ≡ true
@@ -235,7 +234,7 @@ step_gives k s Is.Other g = stop_gives (NotOfForm k)
 
 -- ---- the whole text
 
-pub not_refused : {P : Type 0} (o : Outcome) (j : Job) → refused o ≡ accepted j → P
+pub not_refused : {P : Type 0} (o : Refusal) (j : Job) → refused o ≡ accepted j → P
 not_refused o j e = absurd (let z : ◌≡◌ {A = ℕ} 0 1 = cc in omega arith)
 
 ended_accepted : (k : ℕ) (s : State) (j : Job) → AcceptedState s → ended k s ≡ accepted j → AcceptedJob j

@@ -8,8 +8,8 @@ use borrow.Author.Tests.{ltb-true, ltb-false}
 use Rattle.board.specs.declared.Block.{Block}
 use Rattle.board.specs.Job.{Job}
 use Rattle.board.specs.Accepted.{BlockInRange}
-use Rattle.jobfile.specs.declared.Outcome.{Outcome}
-use Rattle.jobfile.specs.declared.Outcome.TheVariants.{OutOfRange, TooMany}
+use Rattle.jobfile.specs.declared.Refusal.{Refusal}
+use Rattle.jobfile.specs.declared.Refusal.TheVariants.{OutOfRange, TooMany}
 use Rattle.jobfile.specs.Read.{State, filled, with_block, add_block}
 use Rattle.jobfile.specs.Answers.{number_of, line_of}
 use Rattle.jobfile.specs.Faults.{BlockFault, block_range, block_count}
@@ -17,18 +17,18 @@ use Rattle.jobfile.proofs.Tests.{denied, block_range_is}
 use Rattle.jobfile.proofs.BlockTests.{block_tests, block_tested, block_rising}
 use Rattle.jobfile.proofs.TestOrder.{Judged, Standing, outcomes, tested_judged}
 
-pub block_at : (job : Job) (b : Block) (k : ℕ) (o : Outcome) → BlockFault job b k o → (line_of o ≡ k) × (3 ≤ number_of o)
+pub block_at : (job : Job) (b : Block) (k : ℕ) (o : Refusal) → BlockFault job b k o → (line_of o ≡ k) × (3 ≤ number_of o)
 block_at job b k o (block_range x) = (refl, omega arith)
 block_at job b k o (block_count x) = (refl, omega arith)
 
 module _ (job : Job) (b : Block) (k : ℕ) where
   -- what a fault of the block says, by the refusal
-  abbrev Says : Outcome → Type 0
+  abbrev Says : Refusal → Type 0
   Says (OutOfRange m) = BlockInRange job.board b → ⊥
   Says (TooMany m) = 256 ≤ length job.blocks
   Says _ = Unit {0}
 
-  says : {o : Outcome} → BlockFault job b k o → Says o
+  says : {o : Refusal} → BlockFault job b k o → Says o
   says (block_range x) = x
   says (block_count x) = x
 
@@ -44,7 +44,7 @@ module _ (job : Job) (b : Block) (k : ℕ) where
     ),
   )
 
-  block_covered : (o : Outcome) → BlockFault job b k o → Memᴰ o (outcomes (block_tests job b k))
+  block_covered : (o : Refusal) → BlockFault job b k o → Memᴰ o (outcomes (block_tests job b k))
   block_covered o (block_range x) = Memᴰ.head refl
   block_covered o (block_count x) = Memᴰ.tail (Memᴰ.head refl)
 

@@ -7,7 +7,7 @@ use lib.Dec.{ltb}
 use lib.ListN.{length}
 use Rattle.board.specs.declared.Block.{Block}
 use Rattle.board.specs.Job.{Job}
-use Rattle.jobfile.specs.declared.Outcome.TheVariants.{OutOfRange, TooMany}
+use Rattle.jobfile.specs.declared.Refusal.TheVariants.{OutOfRange, TooMany}
 use Rattle.jobfile.specs.Read.{filled, go, with_block, block_in_range, add_block}
 use Rattle.jobfile.proofs.TestOrder.{LineTest, test, tested, Rising}
 

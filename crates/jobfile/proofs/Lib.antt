@@ -2,7 +2,7 @@
 pub mod Tests
 pub mod Accepts
 pub mod StoredJobs
-pub mod Outcomes
+pub mod RefusalNumbers
 pub mod TestOrder
 pub mod NetTests
 pub mod NetFaults

@@ -1,15 +1,15 @@
 -- A line is refused for that of its faults which has the smallest number, and goes through where it has none. Assumes nothing.
+use Rattle.std.specs.Prelude.{Option}
 use Prim.Native.Nat.{ℕ, ◌≤◌}
 use mathlib.Core.Path.{◌≡◌, refl, ap, subst, ◌∙◌}
 use mathlib.Core.List.{List, [], ◌∷◌, ◌++◌, Memᴰ}
 use native.Mathlib.Omega.{arith}
 use lib.ListN.{length}
 use Rattle.board.specs.Job.{Job}
-use Rattle.jobfile.specs.declared.Optional.{Optional}
 use Rattle.jobfile.specs.declared.Form.{Form}
 use Rattle.jobfile.specs.declared.Form.TheVariants as Is
-use Rattle.jobfile.specs.declared.Outcome.{Outcome}
-use Rattle.jobfile.specs.declared.Outcome.TheVariants.{NotOfForm, OutOfRange}
+use Rattle.jobfile.specs.declared.Refusal.{Refusal}
+use Rattle.jobfile.specs.declared.Refusal.TheVariants.{NotOfForm, OutOfRange}
 use Rattle.jobfile.specs.Read.{State, start, opened, sized, filled, closed, Next, go, stop, unless, at_start, at_opened, at_sized, at_filled, within, net_given, block_of, board_of, empty_job, add_net, add_block, step}
 use Rattle.jobfile.specs.Answers.{number_of, line_of, no_job}
 use Rattle.jobfile.specs.Faults.{with_form, job_in, net, block, Ordered, MayFollow, NetFault, NotAbove, BlockFault, LineFault, not_of_form, rows_range, tracks_range, of_net, of_block}
@@ -19,7 +19,7 @@ use Rattle.jobfile.proofs.NetFaults.{net_at, net_judged}
 use Rattle.jobfile.proofs.BlockFaults.{block_at, block_judged}
 use Rattle.jobfile.proofs.LinesAbove.{LinesReach, job_more, lines_more, ordered_item, ordered_close, reached_blank, not_both}
 
-pub fault_at : (above : List Form) (k : ℕ) (f : Form) (o : Outcome) → LineFault above k f o → (line_of o ≡ k) × (2 ≤ number_of o)
+pub fault_at : (above : List Form) (k : ℕ) (f : Form) (o : Refusal) → LineFault above k f o → (line_of o ≡ k) × (2 ≤ number_of o)
 fault_at above k f o (not_of_form x) = (refl, omega arith)
 fault_at above k f o (rows_range x) = (refl, omega arith)
 fault_at above k f o (tracks_range x) = (refl, omega arith)
@@ -72,45 +72,45 @@ module _ (above : List Form) (k : ℕ) where
   at_filled_lem x (closed j) f to r g = wrong x (λ m. not_both above (to m) r.0)
 
   -- the faults of a form in its place
-  no_blank : (o : Outcome) → LineFault above k Is.Blank o → ⊥
+  no_blank : (o : Refusal) → LineFault above k Is.Blank o → ⊥
   no_blank o (not_of_form x) = x tt
 
-  no_board : LinesReach start above → (o : Outcome) → LineFault above k Is.Board o → ⊥
+  no_board : LinesReach start above → (o : Refusal) → LineFault above k Is.Board o → ⊥
   no_board r o (not_of_form x) = x r.0
 
   -- P, if the refusal is that of a number outside its range
-  abbrev IfRange : Type 0 → Outcome → Type 0
+  abbrev IfRange : Type 0 → Refusal → Type 0
   IfRange P (OutOfRange m) = P
   IfRange P _ = Unit {0}
 
-  rows_of_line : {h : ℕ} {o : Outcome} → LineFault above k (Is.Rows h) o → IfRange ((1 ≤ h) × (h ≤ 1024) → ⊥) o
+  rows_of_line : {h : ℕ} {o : Refusal} → LineFault above k (Is.Rows h) o → IfRange ((1 ≤ h) × (h ≤ 1024) → ⊥) o
   rows_of_line (not_of_form x) = tt
   rows_of_line (rows_range x) = x
 
-  rows_only : (h : ℕ) → LinesReach opened above → (o : Outcome) → LineFault above k (Is.Rows h) o → Memᴰ o (OutOfRange k ∷ [])
+  rows_only : (h : ℕ) → LinesReach opened above → (o : Refusal) → LineFault above k (Is.Rows h) o → Memᴰ o (OutOfRange k ∷ [])
   rows_only h r o (not_of_form x) = absurd (x r.0)
   rows_only h r o (rows_range x) = Memᴰ.head refl
 
-  tracks_of_line : {t : ℕ} {o : Outcome} → LineFault above k (Is.Tracks t) o → IfRange ((1 ≤ t) × (t ≤ 128) → ⊥) o
+  tracks_of_line : {t : ℕ} {o : Refusal} → LineFault above k (Is.Tracks t) o → IfRange ((1 ≤ t) × (t ≤ 128) → ⊥) o
   tracks_of_line (not_of_form x) = tt
   tracks_of_line (tracks_range x) = x
 
-  tracks_only : (t h : ℕ) → LinesReach (sized h) above → (o : Outcome) → LineFault above k (Is.Tracks t) o →
+  tracks_only : (t h : ℕ) → LinesReach (sized h) above → (o : Refusal) → LineFault above k (Is.Tracks t) o →
       Memᴰ o (OutOfRange k ∷ [])
   tracks_only t h r o (not_of_form x) = absurd (x (h, r.0))
   tracks_only t h r o (tracks_range x) = Memᴰ.head refl
 
-  net_only : (i l r lo hi : ℕ) (w : Optional) → Ordered [] above → (o : Outcome) → LineFault above k (Is.Net i l r lo hi w) o →
+  net_only : (i l r lo hi : ℕ) (w : Option ℕ) → Ordered [] above → (o : Refusal) → LineFault above k (Is.Net i l r lo hi w) o →
       (let n = net_given (job_in above).board i l r lo hi w in NetFault (NotAbove (job_in above).nets n) (job_in above) n w k o)
   net_only i l r lo hi w a o (not_of_form x) = absurd (x a)
   net_only i l r lo hi w a o (of_net x) = x
 
-  block_only : (t a b : ℕ) → Ordered [] above → (o : Outcome) → LineFault above k (Is.Block t a b) o →
+  block_only : (t a b : ℕ) → Ordered [] above → (o : Refusal) → LineFault above k (Is.Block t a b) o →
       BlockFault (job_in above) (block_of t a b) k o
   block_only t a b q o (not_of_form x) = absurd (x q)
   block_only t a b q o (of_block x) = x
 
-  no_close_fault : Ordered [] above → (o : Outcome) → LineFault above k Is.Close o → ⊥
+  no_close_fault : Ordered [] above → (o : Refusal) → LineFault above k Is.Close o → ⊥
   no_close_fault a o (not_of_form x) = x a
 
   -- the forms in their places
@@ -140,7 +140,7 @@ module _ (above : List Form) (k : ℕ) where
       (record { fails = λ e. tracks_range (denied _ (within_is 1 128 t) e); passes = λ e f. tracks_of_line f ((within_is 1 128 t).0 e) }, λ e. tt)
       (tracks_only t h r)
 
-  net_line_judged : (i l r lo hi : ℕ) (w : Optional) (job : Job) → LinesReach (filled job) above →
+  net_line_judged : (i l r lo hi : ℕ) (w : Option ℕ) (job : Job) → LinesReach (filled job) above →
       LineJudged (Is.Net i l r lo hi w) (add_net k (net_given job.board i l r lo hi w) w job)
   unfolding with_form
   net_line_judged i l r lo hi w job a =

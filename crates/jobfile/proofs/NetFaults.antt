@@ -1,4 +1,5 @@
 -- A net is refused for that of its faults which has the smallest number, and added where it has none. Assumes nothing.
+use Rattle.std.specs.Prelude.{Option}
 use Prim.Native.Nat.{ℕ, ◌≤◌, ◌<◌}
 use mathlib.Core.Path.{◌≡◌, refl, ap, ◌∙◌}
 use mathlib.Core.Bool.{Bool, true, false}
@@ -15,9 +16,8 @@ use Rattle.board.specs.declared.Shape.{Shape}
 use Rattle.board.specs.Job.{Job}
 use Rattle.board.specs.Length.{Allowed, needed}
 use Rattle.board.specs.Accepted.{NetInRange}
-use Rattle.jobfile.specs.declared.Optional.{Optional}
-use Rattle.jobfile.specs.declared.Outcome.{Outcome}
-use Rattle.jobfile.specs.declared.Outcome.TheVariants.{Accepted, TooLong, NotOfForm, OutOfRange, TooMany, NumberNotAbove, PinUsed, SameRow, NoLength, TooFewRows}
+use Rattle.jobfile.specs.declared.Refusal.{Refusal}
+use Rattle.jobfile.specs.declared.Refusal.TheVariants.{TooLong, NotOfForm, OutOfRange, TooMany, NumberNotAbove, PinUsed, SameRow, NoLength, TooFewRows}
 use Rattle.jobfile.specs.Read.{State, filled, with_net, weight_in_range, net_in_range, last_number, pins_free, test_net, is_above, add_net}
 use Rattle.jobfile.specs.Answers.{number_of, line_of}
 use Rattle.jobfile.specs.Faults.{NetFault, net_range, weight_range, net_count, misnumbered, NotAbove, left_used, right_used, same_row, no_length, too_few_rows}
@@ -26,7 +26,7 @@ use Rattle.jobfile.proofs.Tests.{denied, differ_is, weight_range_is, net_range_i
 use Rattle.jobfile.proofs.NetTests.{net_tests, net_tested, net_rising}
 use Rattle.jobfile.proofs.TestOrder.{Judged, Standing, outcomes, tested_judged}
 
-pub net_at : {Misnumbered : Type 0} {job : Job} {n : Net} {w : Optional} {k : ℕ} {o : Outcome} → NetFault Misnumbered job n w k o →
+pub net_at : {Misnumbered : Type 0} {job : Job} {n : Net} {w : Option ℕ} {k : ℕ} {o : Refusal} → NetFault Misnumbered job n w k o →
     (line_of o ≡ k) × (3 ≤ number_of o)
 net_at (net_range x) = (refl, omega arith)
 net_at (weight_range x) = (refl, omega arith)
@@ -39,15 +39,14 @@ net_at (no_length x) = (refl, omega arith)
 net_at (too_few_rows x) = (refl, omega arith)
 
 -- of a net whose number is tested in some way: where it is in range, the test fails exactly if the number is what number 5 turns away
-module _ {Misnumbered : Type 0} (job : Job) (n : Net) (w : Optional) (k : ℕ) (numbered : Bool)
+module _ {Misnumbered : Type 0} (job : Job) (n : Net) (w : Option ℕ) (k : ℕ) (numbered : Bool)
     (refused_5 : NetInRange job.board n → numbered ≡ false → Misnumbered) (passed_5 : numbered ≡ true → Misnumbered → ⊥) where
   -- its faults
-  abbrev Faulty : Outcome → Type 0
+  abbrev Faulty : Refusal → Type 0
   Faulty = NetFault Misnumbered job n w k
 
   -- what a fault of it says, by the refusal
-  abbrev Says : Outcome → Type 0
-  Says Accepted = Unit {0}
+  abbrev Says : Refusal → Type 0
   Says TooLong = Unit {0}
   Says (NotOfForm m) = Unit {0}
   Says (OutOfRange m) = net_in_range job.board n w ≡ true → ⊥
@@ -58,7 +57,7 @@ module _ {Misnumbered : Type 0} (job : Job) (n : Net) (w : Optional) (k : ℕ) (
   Says (NoLength m) = (s : Shape) → Allowed job.board n s → ⊥
   Says (TooFewRows m) = job.board.rows < needed job.board n
 
-  says : {o : Outcome} → Faulty o → Says o
+  says : {o : Refusal} → Faulty o → Says o
   says (net_range x) = λ e. x ((net_range_is job.board n w).0 e).0
   says (weight_range x) = λ e. x ((net_range_is job.board n w).0 e).1
   says (net_count x) = x
@@ -122,7 +121,7 @@ module _ {Misnumbered : Type 0} (job : Job) (n : Net) (w : Optional) (k : ℕ) (
     ),
   )
 
-  net_covered : (o : Outcome) → Faulty o → Memᴰ o (outcomes (net_tests job n w k numbered))
+  net_covered : (o : Refusal) → Faulty o → Memᴰ o (outcomes (net_tests job n w k numbered))
   net_covered o (net_range x) = Memᴰ.head refl
   net_covered o (weight_range x) = Memᴰ.head refl
   net_covered o (net_count x) = search (Memᴰ.head, Memᴰ.tail) depth 9
@@ -151,7 +150,7 @@ no_above n ns e x =
     let l : last_number 0 ns ≡ x.last.number = ap (last_number 0) x.nets_are ∙ last_number_lem 0 x.before x.last in
     omega (arith, ltb-true (last_number 0 ns) n.number e, x.not_above)
 
-pub net_judged : (job : Job) (n : Net) (w : Optional) (k : ℕ) (G : State → Type 0) → G (filled (with_net job n)) →
+pub net_judged : (job : Job) (n : Net) (w : Option ℕ) (k : ℕ) (G : State → Type 0) → G (filled (with_net job n)) →
     Judged (NetFault (NotAbove job.nets n) job n w k) G (add_net k n w job)
 unfolding add_net
 net_judged job n w k G g =

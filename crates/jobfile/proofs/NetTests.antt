@@ -1,4 +1,5 @@
 -- The tests of a net, refusals 3 to 9, in their order. Assumes nothing.
+use Rattle.std.specs.Prelude.{Option}
 use Prim.Native.Nat.{ℕ}
 use mathlib.Core.Path.{◌≡◌, refl}
 use mathlib.Core.Bool.{Bool, not}
@@ -10,12 +11,11 @@ use Rattle.lists.specs.Lists.{all_of}
 use Rattle.board.specs.declared.Net.{Net}
 use Rattle.board.specs.Job.{Job}
 use Rattle.board.specs.Length.{length_of, shortest, needed}
-use Rattle.jobfile.specs.declared.Optional.{Optional}
-use Rattle.jobfile.specs.declared.Outcome.TheVariants.{OutOfRange, TooMany, NumberNotAbove, PinUsed, SameRow, NoLength, TooFewRows}
+use Rattle.jobfile.specs.declared.Refusal.TheVariants.{OutOfRange, TooMany, NumberNotAbove, PinUsed, SameRow, NoLength, TooFewRows}
 use Rattle.jobfile.specs.Read.{State, go, net_in_range, pins_free, test_net}
 use Rattle.jobfile.proofs.TestOrder.{LineTest, test, tested, Rising}
 
-module _ (job : Job) (n : Net) (w : Optional) (k : ℕ) (numbered : Bool) where
+module _ (job : Job) (n : Net) (w : Option ℕ) (k : ℕ) (numbered : Bool) where
   -- refusals 3 to 9, in this order
   abbrev pub net_tests : List LineTest
   net_tests =

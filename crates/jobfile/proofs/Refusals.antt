@@ -9,49 +9,49 @@ use Rattle.board.specs.Job.{Job}
 use Rattle.text.specs.Bytes.{lines}
 use Rattle.jobfile.specs.declared.Form.{Form}
 use Rattle.jobfile.specs.declared.Form.TheVariants as Is
-use Rattle.jobfile.specs.declared.Outcome.{Outcome}
-use Rattle.jobfile.specs.declared.Outcome.TheVariants.{TooLong, NotOfForm}
+use Rattle.jobfile.specs.declared.Refusal.{Refusal}
+use Rattle.jobfile.specs.declared.Refusal.TheVariants.{TooLong, NotOfForm}
 use Rattle.jobfile.specs.Forms.{read_form}
 use Rattle.jobfile.specs.Read.{State, start, opened, sized, filled, closed, Next, go, stop, step, Read, accepted, refused, ended, follow, read_from, read_job}
 use Rattle.jobfile.specs.Answers.{number_of, line_of}
 use Rattle.jobfile.specs.Faults.{forms_of, job_from, job_in, non_blank, Ordered, LineFault, Fault, too_long, on_line, ends_early, FirstFault}
 use Rattle.jobfile.proofs.Tests.{read_cases}
-use Rattle.jobfile.proofs.Outcomes.{same_outcome}
+use Rattle.jobfile.proofs.RefusalNumbers.{same_refusal}
 use Rattle.jobfile.proofs.LinesAbove.{LinesReach, not_both}
 use Rattle.jobfile.proofs.LineFaults.{fault_at, LineJudged, step_judged}
 
 -- ---- faults below some lines
 
 -- the lines fs, which stand below the lines `above`, have the fault o
-data FaultIn (above fs : List Form) (o : Outcome) : Type 0 where
+data FaultIn (above fs : List Form) (o : Refusal) : Type 0 where
   line : (ms : List Form) (f : Form) (bs : List Form) → fs ≡ ms ++ (f ∷ bs) →
       LineFault (above ++ ms) (suc (length (above ++ ms))) f o → FaultIn above fs o
   end : o ≡ NotOfForm (suc (length (above ++ fs))) → (Ordered (Is.Close ∷ []) (above ++ fs) → ⊥) → FaultIn above fs o
 
 -- and it is the first
-record FirstIn (above fs : List Form) (o : Outcome) : Type 0 where
+record FirstIn (above fs : List Form) (o : Refusal) : Type 0 where
   fault : FaultIn above fs o
-  first_line : (p : Outcome) → FaultIn above fs p → line_of o ≤ line_of p
-  first_number : (p : Outcome) → FaultIn above fs p → line_of p ≡ line_of o → number_of o ≤ number_of p
+  first_line : (p : Refusal) → FaultIn above fs p → line_of o ≤ line_of p
+  first_number : (p : Refusal) → FaultIn above fs p → line_of p ≡ line_of o → number_of o ≤ number_of p
 
 nil_cons : (ms bs : List Form) (f : Form) → [] ≡ ms ++ (f ∷ bs) → ⊥
 nil_cons ms bs f e = omega (arith, ap length e, length-append ms (f ∷ bs))
 
-in_nil : (above : List Form) (o : Outcome) → FaultIn above [] o →
+in_nil : (above : List Form) (o : Refusal) → FaultIn above [] o →
     (o ≡ NotOfForm (suc (length above))) × (Ordered (Is.Close ∷ []) above → ⊥)
 in_nil above o (line ms f bs e x) = absurd (nil_cons ms bs f e)
 in_nil above o (end q x) = (rw append-nil at q, rw append-nil at x)
 
-here : (above fs : List Form) (f : Form) (o : Outcome) → LineFault above (suc (length above)) f o → FaultIn above (f ∷ fs) o
+here : (above fs : List Form) (f : Form) (o : Refusal) → LineFault above (suc (length above)) f o → FaultIn above (f ∷ fs) o
 here above fs f o x = line [] f fs refl (rw append-nil x)
 
-later : (above fs : List Form) (f : Form) (o : Outcome) → FaultIn (above ++ (f ∷ [])) fs o → FaultIn above (f ∷ fs) o
+later : (above fs : List Form) (f : Form) (o : Refusal) → FaultIn (above ++ (f ∷ [])) fs o → FaultIn above (f ∷ fs) o
 later above fs f o (line ms g bs e x) = line (f ∷ ms) g bs (ap (λ xs. f ∷ xs) e) (rw (append_assoc above (f ∷ []) ms) at x)
 later above fs f o (end q x) =
     let a = append_assoc above (f ∷ []) fs in
     end (rw a at q) (rw a at x)
 
-in_cons : (above fs : List Form) (f : Form) (o : Outcome) → FaultIn above (f ∷ fs) o →
+in_cons : (above fs : List Form) (f : Form) (o : Refusal) → FaultIn above (f ∷ fs) o →
     LineFault above (suc (length above)) f o ⊎ FaultIn (above ++ (f ∷ [])) fs o
 in_cons above fs f o (line [] g bs e x) = let q : g ≡ f = cc in inl (rw (q, append-nil) at x)
 in_cons above fs f o (line (m ∷ ms) g bs e x) =
@@ -63,7 +63,7 @@ in_cons above fs f o (end q x) =
     inr (end (rw a q) (rw a x))
 
 -- a fault's line is below those above
-fault_below : (above fs : List Form) (o : Outcome) → FaultIn above fs o → suc (length above) ≤ line_of o
+fault_below : (above fs : List Form) (o : Refusal) → FaultIn above fs o → suc (length above) ≤ line_of o
 fault_below above fs o (line ms f bs e x) =
     omega (arith, fault_at (above ++ ms) (suc (length (above ++ ms))) f o x, length-append above ms)
 fault_below above fs o (end q x) = omega (arith, ap line_of q, length-append above fs)
@@ -72,7 +72,7 @@ fault_below above fs o (end q x) = omega (arith, ap line_of q, length-append abo
 
 -- what the lines fs below the lines `above` are read as is right
 abbrev Right : List Form → List Form → Read → Type 0
-Right above fs (accepted job) = ((o : Outcome) → FaultIn above fs o → ⊥) × (job ≡ job_in (above ++ fs))
+Right above fs (accepted job) = ((o : Refusal) → FaultIn above fs o → ⊥) × (job ≡ job_in (above ++ fs))
 Right above fs (refused o) = FirstIn above fs o
 
 right_early : (above : List Form) → (Ordered (Is.Close ∷ []) above → ⊥) →
@@ -94,7 +94,7 @@ ended_right above (closed job) r = (λ o q. (in_nil above o q).1 r.0, sym r.1 �
 
 module _ (above fs : List Form) (f : Form) where
   -- a line without a fault above them
-  right_later : (y : Read) → ((o : Outcome) → LineFault above (suc (length above)) f o → ⊥) → Right (above ++ (f ∷ [])) fs y →
+  right_later : (y : Read) → ((o : Refusal) → LineFault above (suc (length above)) f o → ⊥) → Right (above ++ (f ∷ [])) fs y →
       Right above (f ∷ fs) y
   right_later (accepted job) none r = (
     λ o q. ⊎_elim (λ x. none o x) (λ x. r.0 o x) (in_cons above fs f o q),
@@ -140,23 +140,23 @@ module _ (text : List ℕ) where
   unfolding non_blank job_from
   lines_right = from_right [] start (lines text) (refl, refl)
 
-  in_fault : (o : Outcome) → FaultIn [] (forms_of text) o → Fault text o
+  in_fault : (o : Refusal) → FaultIn [] (forms_of text) o → Fault text o
   in_fault o (line ms f bs e x) = on_line ms bs f e x
   in_fault o (end q x) = rw q (ends_early (suc (length (forms_of text))) refl x)
 
-  fault_in : length text ≤ 64000 → (o : Outcome) → Fault text o → FaultIn [] (forms_of text) o
+  fault_in : length text ≤ 64000 → (o : Refusal) → Fault text o → FaultIn [] (forms_of text) o
   fault_in h o (too_long l) = absurd (omega arith)
   fault_in h o (on_line above below f e x) = line above f below e x
   fault_in h o (ends_early k e x) = end (ap NotOfForm e) x
 
-  pub fault_from : (o : Outcome) → Fault text o → 1 ≤ number_of o
+  pub fault_from : (o : Refusal) → Fault text o → 1 ≤ number_of o
   fault_from o (too_long l) = omega arith
   fault_from o (on_line above below f e x) = omega (arith, fault_at above (suc (length above)) f o x)
   fault_from o (ends_early k e x) = omega arith
 
   -- what read answers is right
   abbrev Answered : Read → Type 0
-  Answered (accepted job) = ((o : Outcome) → Fault text o → ⊥) × (job ≡ job_in (forms_of text))
+  Answered (accepted job) = ((o : Refusal) → Fault text o → ⊥) × (job ≡ job_in (forms_of text))
   Answered (refused o) = FirstFault text o
 
   answered : (y : Read) → length text ≤ 64000 → Right [] (forms_of text) y → Answered y
@@ -176,11 +176,11 @@ module _ (text : List ℕ) where
       read_cases text Answered (λ h. answered (read_from 1 start (lines text)) (omega arith) lines_right) (λ h. long_answered (omega arith))
 
   -- a refused text has the fault that the answer names, none on a line before, and none of a smaller number on that line
-  pub read_refused : (o : Outcome) → read_job text ≡ refused o → FirstFault text o
+  pub read_refused : (o : Refusal) → read_job text ≡ refused o → FirstFault text o
   read_refused o e = subst Answered e read_answered
 
   -- an accepted text has no fault
-  pub read_faultless : (job : Job) → read_job text ≡ accepted job → (o : Outcome) → Fault text o → ⊥
+  pub read_faultless : (job : Job) → read_job text ≡ accepted job → (o : Refusal) → Fault text o → ⊥
   read_faultless job e = (subst Answered e read_answered).0
 
   -- and is read as the job that its lines hold
@@ -188,7 +188,7 @@ module _ (text : List ℕ) where
   read_held job e = (subst Answered e read_answered).1
 
   -- back: the first fault of a text is what it is refused for
-  pub first_refused : (o : Outcome) → FirstFault text o → read_job text ≡ refused o
+  pub first_refused : (o : Refusal) → FirstFault text o → read_job text ≡ refused o
   first_refused o h = by (read_job text) read_answered
     where
       by : (y : Read) → Answered y → y ≡ refused o
@@ -199,10 +199,10 @@ module _ (text : List ℕ) where
           let k : line_of p ≡ line_of o = omega arith in
           let i = a.first_number o h.fault (sym k) in
           let j = h.first_number p a.fault k in
-          ap refused (same_outcome p o (omega arith) k)
+          ap refused (same_refusal p o (omega arith) k)
 
   -- and a text without a fault is accepted
-  pub faultless_accepted : ((o : Outcome) → Fault text o → ⊥) → read_job text ≡ accepted (job_in (forms_of text))
+  pub faultless_accepted : ((o : Refusal) → Fault text o → ⊥) → read_job text ≡ accepted (job_in (forms_of text))
   faultless_accepted none = by (read_job text) read_answered
     where
       by : (y : Read) → Answered y → y ≡ accepted (job_in (forms_of text))
@@ -210,7 +210,7 @@ module _ (text : List ℕ) where
       by (refused o) a = absurd (none o a.fault)
 
   -- length first: refusal 1 is for all texts above 64,000 bytes and for no other
-  long_fault : (o : Outcome) → o ≡ TooLong → Fault text o → 64000 < length text
+  long_fault : (o : Refusal) → o ≡ TooLong → Fault text o → 64000 < length text
   long_fault o q (too_long h) = h
   long_fault o q (on_line above below f e x) = absurd (omega (arith, ap line_of q, fault_at above (suc (length above)) f o x))
   long_fault o q (ends_early k e x) = absurd (omega (arith, ap line_of q))

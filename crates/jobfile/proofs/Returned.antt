@@ -1,93 +1,72 @@
--- What read returns: where the outcome is that the text is accepted, the job by value stands for the job read, which is accepted;
--- elsewhere it is the first fault of the text. Assumes nothing.
+-- What read returns: a job by value stands for the job read, which is accepted; a refusal names the first fault of the text.
+-- Assumes nothing.
+use Rattle.std.specs.Prelude.{Result, Ok, Err}
 use Prim.Native.Nat.{ℕ}
 use mathlib.Core.Path.{◌≡◌, refl, sym, ap, ◌∙◌}
 use mathlib.Core.List.{List}
-use native.Mathlib.Omega.{arith}
+use Rattle.board.specs.declared.StoredJob.{StoredJob}
 use Rattle.board.specs.Stored.{job_of, stored_of, AcceptedStored}
-use Rattle.jobfile.specs.declared.Answer.{Answer}
-use Rattle.jobfile.specs.declared.Outcome.{Outcome}
-use Rattle.jobfile.specs.declared.Outcome.TheVariants as Is
+use Rattle.jobfile.specs.declared.Refusal.{Refusal}
 use Rattle.jobfile.specs.Read.{Read, accepted, refused, read_job}
-use Rattle.jobfile.specs.Answers.{number_of, answer_of, answer, no_job}
-use Rattle.jobfile.specs.RightAnswer.{RightAnswer}
+use Rattle.jobfile.specs.Answers.{answer_of, answer}
+use Rattle.jobfile.specs.RightAnswer.{RightJob, RightAnswer}
 use Rattle.jobfile.proofs.Accepts.{read_accepted}
 use Rattle.board.proofs.StoredJobs.{job_back, stored_accepted}
-use Rattle.jobfile.proofs.Refusals.{read_refused, read_faultless, read_held, fault_from}
+use Rattle.jobfile.proofs.Refusals.{read_refused, read_faultless, read_held}
 
+-- what a caller of read holds of a text: that the answer is the one for what the text is read as
 module _ (text : List ℕ) where
-  -- no refusal has the outcome of an accepted text
-  refused_number : (o : Outcome) → read_job text ≡ refused o → o ≡ Is.Accepted → ⊥
-  refused_number o e q = omega (arith, ap number_of q, fault_from text o (read_refused text o e).fault)
-
-  pub returned_job : (answer text).outcome ≡ Is.Accepted → read_job text ≡ accepted (job_of (answer text).job)
+  -- a job by value is the stored one, and the text is read as it
+  pub given_job : (s : StoredJob) → Ok s ≡ answer_of (read_job text) → AcceptedStored s × (read_job text ≡ accepted (job_of s))
   unfolding answer_of
-  returned_job = by (read_job text) refl
+  given_job s = by (read_job text) refl
     where
-      by : (y : Read) → read_job text ≡ y → (answer_of y).outcome ≡ Is.Accepted → y ≡ accepted (job_of (answer_of y).job)
-      by (accepted job) e q = ap accepted (sym (job_back job))
-      by (refused o) e q = absurd (refused_number o e q)
+      by : (y : Read) → read_job text ≡ y → Ok s ≡ answer_of y → AcceptedStored s × (y ≡ accepted (job_of s))
+      by (accepted job) r e =
+          let same : s ≡ stored_of job = cc in
+          rw same (stored_accepted job (read_accepted text job r), ap accepted (sym (job_back job)))
+      by (refused o) r e = cc
 
-  pub returned_refused : ((answer text).outcome ≡ Is.Accepted → ⊥) → read_job text ≡ refused (answer text).outcome
+  pub given_stored : (s : StoredJob) → Ok s ≡ answer_of (read_job text) → AcceptedStored s
+  given_stored s e = (given_job s e).0
+
+  pub given_read : (s : StoredJob) → Ok s ≡ answer_of (read_job text) → read_job text ≡ accepted (job_of s)
+  given_read s e = (given_job s e).1
+
+  -- a refusal is the one that the text is refused with
+  pub given_refused : (o : Refusal) → Err o ≡ answer_of (read_job text) → read_job text ≡ refused o
   unfolding answer_of
-  returned_refused = by (read_job text)
+  given_refused o = by (read_job text)
     where
-      by : (y : Read) → ((answer_of y).outcome ≡ Is.Accepted → ⊥) → y ≡ refused (answer_of y).outcome
-      by (accepted job) q = absurd (q refl)
-      by (refused o) q = refl
+      by : (y : Read) → Err o ≡ answer_of y → y ≡ refused o
+      by (accepted job) e = cc
+      by (refused p) e = cc
+
+-- the same of what read returns
+module _ (text : List ℕ) where
+  pub returned_job : (s : StoredJob) → answer text ≡ Ok s → read_job text ≡ accepted (job_of s)
+  returned_job s e = given_read text s (sym e)
+
+  pub returned_refused : (o : Refusal) → answer text ≡ Err o → read_job text ≡ refused o
+  returned_refused o e = given_refused text o (sym e)
 
   -- a refusal hands out no job
-  pub returned_empty : ((answer text).outcome ≡ Is.Accepted → ⊥) → (answer text).job ≡ stored_of no_job
-  unfolding answer_of
-  returned_empty = by (read_job text)
-    where
-      by : (y : Read) → ((answer_of y).outcome ≡ Is.Accepted → ⊥) → (answer_of y).job ≡ stored_of no_job
-      by (accepted job) q = absurd (q refl)
-      by (refused o) q = refl
-
--- what a caller of read holds: its answer, and the number of the outcome
-module _ (text : List ℕ) (a : Answer) (n : ℕ) (e : a ≡ answer_of (read_job text)) (f : n ≡ number_of a.outcome) where
-  accepted_by : (y : Read) → read_job text ≡ y → number_of (answer_of y).outcome ≡ 0 → AcceptedStored (answer_of y).job × (y ≡ accepted (job_of (answer_of y).job))
-  unfolding answer_of
-  accepted_by (accepted job) r z = (stored_accepted job (read_accepted text job r), ap accepted (sym (job_back job)))
-  accepted_by (refused o) r z = absurd (omega (arith, fault_from text o (read_refused text o r).fault))
-
-  refused_by : (y : Read) → (number_of (answer_of y).outcome ≡ 0 → ⊥) → y ≡ refused (answer_of y).outcome
-  unfolding answer_of
-  refused_by (accepted job) h = absurd (h refl)
-  refused_by (refused o) h = refl
-
-  number_is : n ≡ number_of (answer_of (read_job text)).outcome
-  number_is = f ∙ ap (λ (x : Answer). number_of x.outcome) e
-
-  -- number 0: the job by value is an accepted one, and the text is read as it
-  pub given_stored : n ≡ 0 → AcceptedStored a.job
-  given_stored z = rw e (accepted_by (read_job text) refl (sym number_is ∙ z)).0
-
-  pub given_read : n ≡ 0 → read_job text ≡ accepted (job_of a.job)
-  given_read z = (accepted_by (read_job text) refl (sym number_is ∙ z)).1 ∙ ap (λ (x : Answer). accepted (job_of x.job)) (sym e)
-
-  -- any other number: the text is refused with that outcome
-  pub given_refused : (n ≡ 0 → ⊥) → read_job text ≡ refused a.outcome
-  given_refused h = refused_by (read_job text) (λ z. h (number_is ∙ z)) ∙ ap (λ (x : Answer). refused x.outcome) (sym e)
+  pub returned_empty : (o : Refusal) → answer text ≡ Err o → (s : StoredJob) → answer text ≡ Ok s → ⊥
+  returned_empty o e s f = cc
 
 -- beside a refusal there is no job
-pub refused_job : (o : Outcome) → (answer_of (refused o)).job ≡ stored_of no_job
+pub refused_job : (o : Refusal) (s : StoredJob) → answer_of (refused o) ≡ Ok s → ⊥
 unfolding answer_of
-refused_job o = refl
+refused_job o s e = cc
 
 -- the answer of read is right
-pub right_answer : (text : List ℕ) (a : Answer) → a ≡ answer_of (read_job text) → (a ≡ answer_of (read_job text)) × RightAnswer text a
-right_answer text a e =
-    let n = number_of a.outcome in
-    let read : n ≡ 0 → read_job text ≡ accepted (job_of a.job) = given_read text a n e refl in
-    let refused_as : (n ≡ 0 → ⊥) → read_job text ≡ refused a.outcome = given_refused text a n e refl in (
-      e,
-      record {
-        faultless = λ z. read_faultless text (job_of a.job) (read z);
-        job_held = λ z. read_held text (job_of a.job) (read z);
-        job_accepted = λ z. read_accepted text (job_of a.job) (read z);
-        first_fault = λ h. read_refused text a.outcome (refused_as h);
-        without_job = λ h. ap (λ (x : Answer). x.job) (e ∙ ap answer_of (refused_as h)) ∙ refused_job a.outcome;
-      },
-    )
+pub right_answer : (text : List ℕ) (a : Result StoredJob Refusal) → a ≡ answer_of (read_job text) → (a ≡ answer_of (read_job text)) × RightAnswer text a
+right_answer text (Ok s) e = (
+  e,
+  let r = given_read text s e in record {
+    faultless = read_faultless text (job_of s) r;
+    job_held = read_held text (job_of s) r;
+    job_accepted = read_accepted text (job_of s) r;
+  },
+)
+right_answer text (Err o) e = (e, read_refused text o (given_refused text o e))

@@ -8,31 +8,31 @@ use mathlib.Core.List.{List, [], ◌∷◌, map, Memᴰ}
 use native.Mathlib.Omega.{arith}
 use Rattle.lists.specs.Lists.{Each, EachPair}
 use Rattle.lists.proofs.Cases.{by_test}
-use Rattle.jobfile.specs.declared.Outcome.{Outcome}
+use Rattle.jobfile.specs.declared.Refusal.{Refusal}
 use Rattle.jobfile.specs.Read.{State, Next, go, stop, unless}
 use Rattle.jobfile.specs.Answers.{number_of}
 
 -- the fault with the smallest number
-pub record Least (F : Outcome → Type 0) (o : Outcome) : Type 0 where
+pub record Least (F : Refusal → Type 0) (o : Refusal) : Type 0 where
   pub fault : F o
-  pub least : (p : Outcome) → F p → number_of o ≤ number_of p
+  pub least : (p : Refusal) → F p → number_of o ≤ number_of p
 
 -- a line with the faults F is refused for the least of them, or goes on to a state of which G holds and has none
-abbrev pub Judged : (Outcome → Type 0) → (State → Type 0) → Next → Type 0
-Judged F G (go s) = G s × ((o : Outcome) → F o → ⊥)
+abbrev pub Judged : (Refusal → Type 0) → (State → Type 0) → Next → Type 0
+Judged F G (go s) = G s × ((o : Refusal) → F o → ⊥)
 Judged F G (stop o) = Least F o
 
-pub judged_same : (F H : Outcome → Type 0) (G : State → Type 0) (x : Next) → ((o : Outcome) → F o → H o) →
-    ((o : Outcome) → H o → F o) → Judged F G x → Judged H G x
+pub judged_same : (F H : Refusal → Type 0) (G : State → Type 0) (x : Next) → ((o : Refusal) → F o → H o) →
+    ((o : Refusal) → H o → F o) → Judged F G x → Judged H G x
 judged_same F H G (go s) f h j = (j.0, λ o p. j.1 o (h o p))
 judged_same F H G (stop o) f h j = record { fault = f o j.fault; least = λ p q. j.least p (h p q) }
 
 -- a test of a line, and what the text is refused for where it fails
 pub record LineTest : Type 0 where
   pub passed : Bool
-  pub otherwise : Outcome
+  pub otherwise : Refusal
 
-abbrev pub test : Bool → Outcome → LineTest
+abbrev pub test : Bool → Refusal → LineTest
 test passed o = record { passed = passed; otherwise = o }
 
 -- one test after another
@@ -45,21 +45,21 @@ abbrev pub Rising : List LineTest → Type 0
 Rising ts = EachPair (λ s t. number_of s.otherwise < number_of t.otherwise) ts
 
 -- a test fails exactly where the line has the fault that it stands for
-pub record StandsFor (F : Outcome → Type 0) (t : LineTest) : Type 0 where
+pub record StandsFor (F : Refusal → Type 0) (t : LineTest) : Type 0 where
   pub fails : t.passed ≡ false → F t.otherwise
   pub passes : t.passed ≡ true → F t.otherwise → ⊥
 
 -- so does each, where those before it have passed
-abbrev pub Standing : (Outcome → Type 0) → List LineTest → Type 0
+abbrev pub Standing : (Refusal → Type 0) → List LineTest → Type 0
 Standing F [] = Unit {0}
 Standing F (t ∷ ts) = StandsFor F t × (t.passed ≡ true → Standing F ts)
 
 -- what the tests stand for
-abbrev pub outcomes : List LineTest → List Outcome
+abbrev pub outcomes : List LineTest → List Refusal
 outcomes ts = map (λ t. t.otherwise) ts
 
 -- where they rise, a fault of a later test has a larger number
-later_number : (t : LineTest) (ts : List LineTest) (p : Outcome) → Each (λ u. number_of t.otherwise < number_of u.otherwise) ts →
+later_number : (t : LineTest) (ts : List LineTest) (p : Refusal) → Each (λ u. number_of t.otherwise < number_of u.otherwise) ts →
     Memᴰ p (outcomes ts) → number_of t.otherwise ≤ number_of p
 later_number t [] p a m = absurd (Memᴰ.not-nil m)
 later_number t (u ∷ ts) p a m =
@@ -68,9 +68,9 @@ later_number t (u ∷ ts) p a m =
     (λ i. later_number t ts p a.1 i)
     (Memᴰ.cases_cons m)
 
-module _ (F : Outcome → Type 0) (G : State → Type 0) (s : State) (good : G s) where
+module _ (F : Refusal → Type 0) (G : State → Type 0) (s : State) (good : G s) where
   -- tests that rise and stand for all the faults of a line
-  pub tested_judged : (ts : List LineTest) → Rising ts → Standing F ts → ((o : Outcome) → F o → Memᴰ o (outcomes ts)) →
+  pub tested_judged : (ts : List LineTest) → Rising ts → Standing F ts → ((o : Refusal) → F o → Memᴰ o (outcomes ts)) →
       Judged F G (tested ts (go s))
   unfolding unless
   tested_judged [] r a c = (good, λ o f. Memᴰ.not-nil (c o f))

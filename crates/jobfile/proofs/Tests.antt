@@ -1,4 +1,5 @@
 -- What each test of a line says: it passes exactly where the fact holds that it stands for. Assumes nothing.
+use Rattle.std.specs.Prelude.{Option, None, Some}
 use Prim.Native.Nat.{ℕ, ◌≤◌, ◌<◌}
 use mathlib.Core.Path.{◌≡◌, refl, sym, ◌∙◌}
 use mathlib.Core.Logic.{◌↔◌}
@@ -17,9 +18,7 @@ use Rattle.board.specs.Length.{Allowed, length_of, shortest}
 use Rattle.board.specs.Accepted.{NetInRange, BlockInRange}
 use Rattle.board.proofs.ShortestShape.{shortest_long, shortest_least}
 use Rattle.text.specs.Bytes.{lines}
-use Rattle.jobfile.specs.declared.Optional.{Optional}
-use Rattle.jobfile.specs.declared.Optional.TheVariants.{LeftOut, Written}
-use Rattle.jobfile.specs.declared.Outcome.TheVariants.{TooLong}
+use Rattle.jobfile.specs.declared.Refusal.TheVariants.{TooLong}
 use Rattle.jobfile.specs.Read.{start, within, weight_in_range, net_in_range, block_in_range, pins_free, last_number, Read, refused, read_from, read_job}
 use Rattle.jobfile.specs.Faults.{WeightInRange}
 
@@ -52,12 +51,12 @@ unfolding read_job
 read_cases text P f g = by_length P (length text) 64000 (read_from 1 start (lines text)) (refused TooLong) f g
 
 -- refusal 3
-pub weight_range_is : (w : Optional) → (weight_in_range w ≡ true) ↔ WeightInRange w
+pub weight_range_is : (w : Option ℕ) → (weight_in_range w ≡ true) ↔ WeightInRange w
 unfolding weight_in_range
-weight_range_is LeftOut = (λ h. tt, λ u. refl)
-weight_range_is (Written w) = within_is 1 999 w
+weight_range_is None = (λ h. tt, λ u. refl)
+weight_range_is (Some w) = within_is 1 999 w
 
-pub net_range_is : (board : Board) (n : Net) (w : Optional) → (net_in_range board n w ≡ true) ↔ (NetInRange board n × WeightInRange w)
+pub net_range_is : (board : Board) (n : Net) (w : Option ℕ) → (net_in_range board n w ≡ true) ↔ (NetInRange board n × WeightInRange w)
 unfolding net_in_range
 net_range_is board n w =
     let t =

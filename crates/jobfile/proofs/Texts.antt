@@ -1,4 +1,5 @@
 -- What small texts are read as, those of the readings of document 01 among them, and its worked board. Assumes nothing.
+use Rattle.std.specs.Prelude.{None}
 use Prim.Native.Nat.{ℕ, zero, suc, ◌+◌, ◌≤◌}
 use mathlib.Core.Path.{◌≡◌, refl, ap, ◌∙◌}
 use mathlib.Core.List.{[], ◌∷◌}
@@ -8,9 +9,8 @@ use Rattle.board.specs.Job.{Job}
 use Rattle.board.specs.WorkedBoard.{worked_job}
 use Rattle.board.specs.WeightedBoard.{weighted_job}
 use Rattle.text.specs.Bytes.{bytes, lines}
-use Rattle.jobfile.specs.declared.Optional.TheVariants.{LeftOut}
 use Rattle.jobfile.specs.declared.Form.TheVariants as Is
-use Rattle.jobfile.specs.declared.Outcome.TheVariants.{NotOfForm, OutOfRange, TooMany, NumberNotAbove, PinUsed, SameRow, NoLength, TooFewRows}
+use Rattle.jobfile.specs.declared.Refusal.TheVariants.{NotOfForm, OutOfRange, TooMany, NumberNotAbove, PinUsed, SameRow, NoLength, TooFewRows}
 use Rattle.jobfile.specs.Read.{start, stop, net_of, block_of, board_of, empty_job, add_net, add_block, accepted, refused, read_from, read_job}
 use Rattle.jobfile.specs.Faults.{forms_of, with_form, job_from, job_in}
 use Rattle.board.specs.Accepted.{AcceptedJob}
@@ -195,9 +195,9 @@ full =
     }
 
 too_many :
-    (add_net 600 (net_of 10 3 4 0 9 2) LeftOut full ≡ stop (TooMany 600)) ×
-    (add_net 600 (net_of 9 3 4 0 9 2) LeftOut full ≡ stop (TooMany 600)) ×
-    (add_net 600 (net_of 9 3 10 0 9 2) LeftOut full ≡ stop (OutOfRange 600)) ×
+    (add_net 600 (net_of 10 3 4 0 9 2) None full ≡ stop (TooMany 600)) ×
+    (add_net 600 (net_of 9 3 4 0 9 2) None full ≡ stop (TooMany 600)) ×
+    (add_net 600 (net_of 9 3 10 0 9 2) None full ≡ stop (OutOfRange 600)) ×
     (add_block 600 (block_of 1 1 1) full ≡ stop (TooMany 600)) ×
     (add_block 600 (block_of 2 1 1) full ≡ stop (OutOfRange 600))
 unfolding read_as

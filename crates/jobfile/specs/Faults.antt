@@ -1,5 +1,5 @@
 -- Document 01, "Operations", read: what is faulty about a line, each refusal for itself, and which fault of a text comes first.
-use Rattle.std.specs.Prelude.{ℕ, suc, ◌≤◌, ◌<◌, ◌≡◌, Bool, true, false, cond, length}
+use Rattle.std.specs.Prelude.{ℕ, suc, ◌≤◌, ◌<◌, ◌≡◌, Bool, true, false, cond, length, Option, None, Some}
 use mathlib.Core.List.{List, [], ◌∷◌, ◌++◌, map, Memᴰ}
 use Rattle.lists.specs.Lists.{Each}
 use Rattle.board.specs.declared.Net.{Net}
@@ -9,12 +9,10 @@ use Rattle.board.specs.Job.{Job}
 use Rattle.board.specs.Length.{Allowed, needed}
 use Rattle.board.specs.Accepted.{NetInRange, BlockInRange}
 use Rattle.text.specs.Bytes.{lines}
-use Rattle.jobfile.specs.declared.Optional.{Optional}
-use Rattle.jobfile.specs.declared.Optional.TheVariants.{LeftOut, Written}
 use Rattle.jobfile.specs.declared.Form.{Form}
 use Rattle.jobfile.specs.declared.Form.TheVariants as Is
-use Rattle.jobfile.specs.declared.Outcome.{Outcome}
-use Rattle.jobfile.specs.declared.Outcome.TheVariants.{TooLong, NotOfForm, OutOfRange, TooMany, NumberNotAbove, PinUsed, SameRow, NoLength, TooFewRows}
+use Rattle.jobfile.specs.declared.Refusal.{Refusal}
+use Rattle.jobfile.specs.declared.Refusal.TheVariants.{TooLong, NotOfForm, OutOfRange, TooMany, NumberNotAbove, PinUsed, SameRow, NoLength, TooFewRows}
 use Rattle.jobfile.specs.Forms.{read_form}
 use Rattle.jobfile.specs.Read.{net_given, block_of, board_of, with_net, with_block}
 use Rattle.jobfile.specs.Answers.{number_of, line_of, no_job}
@@ -61,7 +59,7 @@ non_blank (f ∷ fs) = let rest = non_blank fs in cond (is_blank f) rest (f ∷ 
 
 -- the form is a net or a block
 pub data Item : Form → Type 0 where
-  net : {i l r lo hi : ℕ} {w : Optional} → Item (Is.Net i l r lo hi w)
+  net : {i l r lo hi : ℕ} {w : Option ℕ} → Item (Is.Net i l r lo hi w)
   block : {t a b : ℕ} → Item (Is.Block t a b)
 
 -- the lines are `(board`, `(rows H)`, `(tracks K)`, then nets and blocks in any order, and then the lines of `last`
@@ -84,13 +82,13 @@ MayFollow fs Is.Close = Ordered [] fs
 MayFollow fs Is.Other = ⊥
 
 -- a weight that a line gives is in range: from 1 to 999 where it is written
-abbrev pub WeightInRange : Optional → Type 0
-WeightInRange LeftOut = Unit {0}
-WeightInRange (Written w) = (1 ≤ w) × (w ≤ 999)
+abbrev pub WeightInRange : Option ℕ → Type 0
+WeightInRange None = Unit {0}
+WeightInRange (Some w) = (1 ≤ w) × (w ≤ 999)
 
 -- the faults of net n with the weight w that is given, at line k, where `job` is what stands above. `Misnumbered` is what number 5 turns away,
 -- which depends on how the net comes
-pub data NetFault (Misnumbered : Type 0) (job : Job) (n : Net) (w : Optional) (k : ℕ) : Outcome → Type 0 where
+pub data NetFault (Misnumbered : Type 0) (job : Job) (n : Net) (w : Option ℕ) (k : ℕ) : Refusal → Type 0 where
   net_range : (NetInRange job.board n → ⊥) → NetFault Misnumbered job n w k (OutOfRange k)
   weight_range : (WeightInRange w → ⊥) → NetFault Misnumbered job n w k (OutOfRange k)
   net_count : 512 ≤ length job.nets → NetFault Misnumbered job n w k (TooMany k)
@@ -109,30 +107,30 @@ pub record NotAbove (nets : List Net) (n : Net) : Type 0 where
   pub not_above : n.number ≤ last.number
 
 -- the faults of block b on line k, where `job` is what the lines above hold
-pub data BlockFault (job : Job) (b : Block) (k : ℕ) : Outcome → Type 0 where
+pub data BlockFault (job : Job) (b : Block) (k : ℕ) : Refusal → Type 0 where
   block_range : (BlockInRange job.board b → ⊥) → BlockFault job b k (OutOfRange k)
   block_count : 256 ≤ length job.blocks → BlockFault job b k (TooMany k)
 
 -- the faults of line k, of the given form, below the lines `above`
-pub data LineFault (above : List Form) (k : ℕ) : Form → Outcome → Type 0 where
+pub data LineFault (above : List Form) (k : ℕ) : Form → Refusal → Type 0 where
   not_of_form : {f : Form} → (MayFollow above f → ⊥) → LineFault above k f (NotOfForm k)
   rows_range : {h : ℕ} → ((1 ≤ h) × (h ≤ 1024) → ⊥) → LineFault above k (Is.Rows h) (OutOfRange k)
   tracks_range : {t : ℕ} → ((1 ≤ t) × (t ≤ 128) → ⊥) → LineFault above k (Is.Tracks t) (OutOfRange k)
-  of_net : {i l r lo hi : ℕ} {w : Optional} {o : Outcome} →
+  of_net : {i l r lo hi : ℕ} {w : Option ℕ} {o : Refusal} →
       (let job = job_in above in let n = net_given job.board i l r lo hi w in NetFault (NotAbove job.nets n) job n w k o) →
       LineFault above k (Is.Net i l r lo hi w) o
-  of_block : {t a b : ℕ} {o : Outcome} → BlockFault (job_in above) (block_of t a b) k o → LineFault above k (Is.Block t a b) o
+  of_block : {t a b : ℕ} {o : Refusal} → BlockFault (job_in above) (block_of t a b) k o → LineFault above k (Is.Block t a b) o
 
 -- the faults of a text: its length, those of its lines, and, at the line after the last, that its lines are no whole job: the text ends early
 -- where no line above is faulty
-pub data Fault (text : List ℕ) : Outcome → Type 0 where
+pub data Fault (text : List ℕ) : Refusal → Type 0 where
   too_long : 64000 < length text → Fault text TooLong
-  on_line : (above below : List Form) (f : Form) {o : Outcome} → forms_of text ≡ above ++ (f ∷ below) →
+  on_line : (above below : List Form) (f : Form) {o : Refusal} → forms_of text ≡ above ++ (f ∷ below) →
       LineFault above (suc (length above)) f o → Fault text o
   ends_early : (k : ℕ) → k ≡ suc (length (forms_of text)) → (Ordered (Is.Close ∷ []) (forms_of text) → ⊥) → Fault text (NotOfForm k)
 
 -- the fault that counts: no fault is on a line before it, and none on its line has a smaller number
-pub record FirstFault (text : List ℕ) (o : Outcome) : Type 0 where
+pub record FirstFault (text : List ℕ) (o : Refusal) : Type 0 where
   pub fault : Fault text o
-  pub first_line : (p : Outcome) → Fault text p → line_of o ≤ line_of p
-  pub first_number : (p : Outcome) → Fault text p → line_of p ≡ line_of o → number_of o ≤ number_of p
+  pub first_line : (p : Refusal) → Fault text p → line_of o ≤ line_of p
+  pub first_number : (p : Refusal) → Fault text p → line_of p ≡ line_of o → number_of o ≤ number_of p

@@ -1,5 +1,5 @@
 -- Document 01, "Text of a job" and "Operations", read: a text becomes a job, or a refusal that names its line.
-use Rattle.std.specs.Prelude.{ℕ, suc, Bool, true, not, cond, ◌&&◌, List, [], ◌∷◌, ◌++◌, eqb, leb, ltb, length}
+use Rattle.std.specs.Prelude.{ℕ, suc, Bool, true, not, cond, ◌&&◌, List, [], ◌∷◌, ◌++◌, eqb, leb, ltb, length, Option, None, Some}
 use Rattle.lists.specs.Lists.{all_of}
 use Rattle.board.specs.declared.Board.{Board}
 use Rattle.board.specs.declared.Net.{Net}
@@ -7,12 +7,10 @@ use Rattle.board.specs.declared.Block.{Block}
 use Rattle.board.specs.Job.{Job}
 use Rattle.board.specs.Length.{length_of, shortest, needed}
 use Rattle.text.specs.Bytes.{lines}
-use Rattle.jobfile.specs.declared.Optional.{Optional}
-use Rattle.jobfile.specs.declared.Optional.TheVariants.{LeftOut, Written}
 use Rattle.jobfile.specs.declared.Form.{Form}
 use Rattle.jobfile.specs.declared.Form.TheVariants as Is
-use Rattle.jobfile.specs.declared.Outcome.{Outcome}
-use Rattle.jobfile.specs.declared.Outcome.TheVariants.{TooLong, NotOfForm, OutOfRange, TooMany, NumberNotAbove, PinUsed, SameRow, NoLength, TooFewRows}
+use Rattle.jobfile.specs.declared.Refusal.{Refusal}
+use Rattle.jobfile.specs.declared.Refusal.TheVariants.{TooLong, NotOfForm, OutOfRange, TooMany, NumberNotAbove, PinUsed, SameRow, NoLength, TooFewRows}
 use Rattle.jobfile.specs.Forms.{read_form}
 
 -- what the lines above hold: nothing yet, `(board`, H too, K too with nets and blocks, the closing bracket too
@@ -26,10 +24,10 @@ pub data State : Type 0 where
 -- what a line leads to: the lines go on, or the text is refused
 pub data Next : Type 0 where
   go : State → Next
-  stop : Outcome → Next
+  stop : Refusal → Next
 
 -- x where the test passes, the refusal o where it fails
-unfoldable pub unless : Bool → Outcome → Next → Next
+unfoldable pub unless : Bool → Refusal → Next → Next
 unless passed o x = cond passed x (stop o)
 
 -- x where nothing stands above, as `(board` asks; anywhere else line k is not of the form
@@ -74,17 +72,17 @@ abbrev pub net_of : ℕ → ℕ → ℕ → ℕ → ℕ → ℕ → Net
 net_of i l r lo hi w = record { number = i; left = record { 0 = l }; right = record { 0 = r }; min = lo; max = hi; weight = w }
 
 -- the weight that a line gives its net: the one that is written; the needed rows where it is left out
-unfoldable pub weight_given : Board → Net → Optional → ℕ
-weight_given board n LeftOut = needed board n
-weight_given board n (Written w) = w
+unfoldable pub weight_given : Board → Net → Option ℕ → ℕ
+weight_given board n None = needed board n
+weight_given board n (Some w) = w
 
 -- the net with the weight that its line gives
-abbrev pub with_weight : Board → Net → Optional → Net
+abbrev pub with_weight : Board → Net → Option ℕ → Net
 with_weight board n w =
     record { number = n.number; left = n.left; right = n.right; min = n.min; max = n.max; weight = weight_given board n w }
 
 -- the net that a line gives on a board, by its number, L, R, min, max and the weight, written or left out; no needed rows depend on a weight
-abbrev pub net_given : Board → ℕ → ℕ → ℕ → ℕ → ℕ → Optional → Net
+abbrev pub net_given : Board → ℕ → ℕ → ℕ → ℕ → ℕ → Option ℕ → Net
 net_given board i l r lo hi w = with_weight board (net_of i l r lo hi 0) w
 
 -- the record of a block, by its track, A and B
@@ -108,12 +106,12 @@ abbrev pub with_block : Job → Block → Job
 with_block job b = record { board = job.board; nets = job.nets; blocks = job.blocks ++ (b ∷ []) }
 
 -- a weight that is written is from 1 to 999
-unfoldable pub weight_in_range : Optional → Bool
-weight_in_range LeftOut = true
-weight_in_range (Written w) = within 1 999 w
+unfoldable pub weight_in_range : Option ℕ → Bool
+weight_in_range None = true
+weight_in_range (Some w) = within 1 999 w
 
 -- the numbers of a net and the weight that its line gives are in their ranges
-unfoldable pub net_in_range : Board → Net → Optional → Bool
+unfoldable pub net_in_range : Board → Net → Option ℕ → Bool
 net_in_range board n w =
     within 1 9999 n.number &&
     within 1 board.rows n.left.0 &&
@@ -141,7 +139,7 @@ pins_free n m = not (eqb m.left.0 n.left.0) && not (eqb m.right.0 n.right.0)
 
 -- the tests of a net with the weight that is given, refusals 3 to 9, the first that fits; state s where all pass. What number 5 asks is
 -- handed in, since it depends on how the net comes: a line's number has to be above the last
-unfoldable pub test_net : ℕ → Bool → Net → Optional → Job → State → Next
+unfoldable pub test_net : ℕ → Bool → Net → Option ℕ → Job → State → Next
 test_net k numbered n w job s =
     unless (net_in_range job.board n w) (OutOfRange k)
     (unless (ltb (length job.nets) 512) (TooMany k)
@@ -157,7 +155,7 @@ unfoldable pub is_above : Net → List Net → Bool
 is_above n ns = ltb (last_number 0 ns) n.number
 
 -- line k is a net: refusals 3 to 9
-unfoldable pub add_net : ℕ → Net → Optional → Job → Next
+unfoldable pub add_net : ℕ → Net → Option ℕ → Job → Next
 add_net k n w job = test_net k (is_above n job.nets) n w job (filled (with_net job n))
 
 -- line k is a block: refusals 3 and 4
@@ -181,7 +179,7 @@ step k s Is.Other = stop (NotOfForm k)
 -- what a text is read as: an accepted job, or a refusal
 pub data Read : Type 0 where
   accepted : Job → Read
-  refused : Outcome → Read
+  refused : Refusal → Read
 
 -- at the end of the text, where k is the line after the last: a text without its closing bracket ends early
 unfoldable pub ended : ℕ → State → Read

@@ -1,18 +1,20 @@
 -- Document 01, "Operations", read: what an answer of read is to be, said of the faults of the text and not of how it is read.
--- proofs/RightOnly.antt shows that one outcome and one job are right.
-use Rattle.std.specs.Prelude.{ℕ, ◌≡◌, List}
+-- proofs/RightOnly.antt shows that one answer is right.
+use Rattle.std.specs.Prelude.{ℕ, ◌≡◌, List, Result, Ok, Err}
 use Rattle.board.specs.Accepted.{AcceptedJob}
-use Rattle.board.specs.Stored.{job_of, stored_of}
-use Rattle.jobfile.specs.declared.Answer.{Answer}
-use Rattle.jobfile.specs.declared.Outcome.{Outcome}
-use Rattle.jobfile.specs.Answers.{outcome_values, no_job}
+use Rattle.board.specs.Stored.{job_of}
+use Rattle.board.specs.declared.StoredJob.{StoredJob}
+use Rattle.jobfile.specs.declared.Refusal.{Refusal}
 use Rattle.jobfile.specs.Faults.{forms_of, job_in, Fault, FirstFault}
 
--- an accepted text has no fault, its job is the one that its lines hold, and keeps every bound; a refused text has the fault that the
--- answer names, no fault is on a line before it, and none on its line has a smaller number; beside it there is no job
-pub record RightAnswer (text : List ℕ) (a : Answer) : Type 0 where
-  pub faultless : (outcome_values a.outcome).number ≡ 0 → (o : Outcome) → Fault text o → ⊥
-  pub job_held : (outcome_values a.outcome).number ≡ 0 → job_of a.job ≡ job_in (forms_of text)
-  pub job_accepted : (outcome_values a.outcome).number ≡ 0 → AcceptedJob (job_of a.job)
-  pub first_fault : ((outcome_values a.outcome).number ≡ 0 → ⊥) → FirstFault text a.outcome
-  pub without_job : ((outcome_values a.outcome).number ≡ 0 → ⊥) → a.job ≡ stored_of no_job
+-- the job of a text without a fault: it is the one that the lines hold, and keeps every bound
+pub record RightJob (text : List ℕ) (job : StoredJob) : Type 0 where
+  pub faultless : (o : Refusal) → Fault text o → ⊥
+  pub job_held : job_of job ≡ job_in (forms_of text)
+  pub job_accepted : AcceptedJob (job_of job)
+
+-- a job is the answer for a text without a fault, and is the job of that text; a refusal is the answer for a text that has the fault that it
+-- names, where no fault is on a line before it, and none on its line has a smaller number. Beside a refusal there is no job
+abbrev pub RightAnswer : List ℕ → Result StoredJob Refusal → Type 0
+RightAnswer text (Ok job) = RightJob text job
+RightAnswer text (Err o) = FirstFault text o

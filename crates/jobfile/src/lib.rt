@@ -1,32 +1,26 @@
 // Reading a job: each line of a text is a form, and the text becomes a job by value or a refusal that names its line.
 #![tactic(auto)]
 
-use board::StoredJob;
+ghost use Rattle.std.specs.Prelude.{◌≡◌};
+ghost use Rattle.jobfile.specs.Answers.{number_of, line_of};
 
-// A last number of a form that a line may leave out.
-#[derive(Clone, Copy)]
-pub enum Optional {
-    LeftOut,
-    Written(usize),
-}
-
-// What a line of a job is: blank, one of the five forms with its numbers in the order of the line, the closing bracket, or none of these.
+// What a line of a job is: blank, one of the five forms with its numbers in the order of the line, the closing bracket, or none of these. The last
+// number of a net, its weight, may be left out.
 #[derive(Clone, Copy)]
 pub enum Form {
     Blank,
     Board,
     Rows(usize),
     Tracks(usize),
-    Net(usize, usize, usize, usize, usize, Optional),
+    Net(usize, usize, usize, usize, usize, Option<usize>),
     Block(usize, usize, usize),
     Close,
     Other,
 }
 
-// The answer of read: the text is accepted, or refused for one reason; all but one name the faulty line.
+// Why read refuses a text; all but one name the faulty line.
 #[derive(Clone, Copy)]
-pub enum Outcome {
-    Accepted,
+pub enum Refusal {
     // above 64,000 bytes
     TooLong,
     // not of the form, or the text ends early
@@ -47,9 +41,38 @@ pub enum Outcome {
     TooFewRows(usize),
 }
 
-// What read returns: the outcome, and the job where it is accepted, the empty job where it is refused.
-#[derive(Clone, Copy)]
-pub struct Answer {
-    pub outcome: Outcome,
-    pub job: StoredJob,
+impl Refusal {
+    // The document's number.
+    pub fn number(self) -> usize
+        ensures { result ≡ number_of self }
+    {
+        match self {
+            Refusal::TooLong => 1,
+            Refusal::NotOfForm(_) => 2,
+            Refusal::OutOfRange(_) => 3,
+            Refusal::TooMany(_) => 4,
+            Refusal::NumberNotAbove(_) => 5,
+            Refusal::PinUsed(_) => 6,
+            Refusal::SameRow(_) => 7,
+            Refusal::NoLength(_) => 8,
+            Refusal::TooFewRows(_) => 9,
+        }
+    }
+
+    // The line that it names, 0 where it names none.
+    pub fn line(self) -> usize
+        ensures { result ≡ line_of self }
+    {
+        match self {
+            Refusal::TooLong => 0,
+            Refusal::NotOfForm(line)
+            | Refusal::OutOfRange(line)
+            | Refusal::TooMany(line)
+            | Refusal::NumberNotAbove(line)
+            | Refusal::PinUsed(line)
+            | Refusal::SameRow(line)
+            | Refusal::NoLength(line)
+            | Refusal::TooFewRows(line) => line,
+        }
+    }
 }

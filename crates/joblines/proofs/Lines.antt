@@ -1,8 +1,12 @@
 -- Each inner line of a job's fixed text is the parts that its writer writes. Assumes nothing.
+use Rattle.std.specs.Prelude.{Option, None, Some}
 use Prim.Native.Nat.{ℕ}
 use mathlib.Core.Path.{◌≡◌, refl, sym, ap, ◌∙◌}
 use mathlib.Core.List.{List, [], ◌∷◌, ◌++◌, append_assoc}
-use borrow.Author.Tests.{eq-eqb, ne_eqb}
+use mathlib.Core.Bool.{not}
+use lib.Dec.{eqb}
+use Rattle.std.specs.Bool.{then_some}
+use Rattle.lists.proofs.Cases.{by_test}
 use Rattle.text.specs.Digits.{digits}
 use Rattle.text.specs.Written.{WrittenAt}
 use Rattle.text.proofs.Writing.{none_at}
@@ -13,8 +17,6 @@ use Rattle.board.specs.declared.Board.{Board}
 use Rattle.board.specs.declared.Net.{Net}
 use Rattle.board.specs.declared.Block.{Block}
 use Rattle.board.specs.Length.{needed}
-use Rattle.jobfile.specs.declared.Optional.{Optional}
-use Rattle.jobfile.specs.declared.Optional.TheVariants.{LeftOut, Written}
 use Rattle.house.specs.HouseText.{spaced_then, inner_line, weight_written, optional_number, net_numbers, block_line}
 use Rattle.joblines.specs.Lines.{ended, two_text, optional_text}
 
@@ -45,33 +47,29 @@ none_parts rest = refl
 pub size_parts : (i n : ℕ) → ended (inner_line (word_of Job i) (n ∷ [])) ≡ head_text Job i n ++ (41 ∷ 10 ∷ [])
 size_parts i n = line_parts i n [] ∙ ap (λ l. head_text Job i n ++ l) (none_parts (41 ∷ 10 ∷ []))
 
-optional_parts : (w : Optional) (rest : List ℕ) → spaced_then (optional_number w) rest ≡ optional_text w ++ rest
+optional_parts : (w : Option ℕ) (rest : List ℕ) → spaced_then (optional_number w) rest ≡ optional_text w ++ rest
 unfolding spaced_then optional_text
-optional_parts LeftOut rest = refl
-optional_parts (Written x) rest = refl
+optional_parts None rest = refl
+optional_parts (Some x) rest = refl
 
 -- a number that is left out, and one that is written
-pub none_put : (w : Optional) (at : ℕ) (s : List ℕ) → w ≡ LeftOut → WrittenAt at (optional_text w) s s at
+pub none_put : (w : Option ℕ) (at : ℕ) (s : List ℕ) → w ≡ None → WrittenAt at (optional_text w) s s at
 unfolding optional_text
 none_put w at s e = rw e (none_at at s)
 
-pub some_text : (w : Optional) (x : ℕ) → w ≡ Written x → optional_text w ≡ 32 ∷ digits x
+pub some_text : (w : Option ℕ) (x : ℕ) → w ≡ Some x → optional_text w ≡ 32 ∷ digits x
 unfolding optional_text
 some_text w x e = rw e
 
-pub some_put : (w : Optional) (x : ℕ) {at r : ℕ} {s t : List ℕ} → w ≡ Written x → WrittenAt at (32 ∷ digits x) s t r → WrittenAt at (optional_text w) s t r
+pub some_put : (w : Option ℕ) (x : ℕ) {at r : ℕ} {s t : List ℕ} → w ≡ Some x → WrittenAt at (32 ∷ digits x) s t r → WrittenAt at (optional_text w) s t r
 some_put w x e h = rw (some_text w x e) h
 
 -- the weight of a net: left out, or written
-pub weight_left_out : (board : Board) (n : Net) → n.weight ≡ needed board n → LeftOut ≡ weight_written board n
+pub weight_is : (board : Board) (n : Net) → then_some (not (eqb n.weight (needed board n))) n.weight ≡ weight_written board n
 unfolding weight_written
-weight_left_out board n e = rw (eq-eqb n.weight (needed board n) e)
+weight_is board n = by_test (eqb n.weight (needed board n)) (λ e. rw e) (λ e. rw e)
 
-pub weight_put : (board : Board) (n : Net) → (n.weight ≡ needed board n → ⊥) → Written n.weight ≡ weight_written board n
-unfolding weight_written
-weight_put board n d = rw (ne_eqb n.weight (needed board n) d)
-
-pub net_parts : (n : Net) (w : Optional) → ended (inner_line net_word (net_numbers n w)) ≡
+pub net_parts : (n : Net) (w : Option ℕ) → ended (inner_line net_word (net_numbers n w)) ≡
     head_text Job 3 n.number ++ (two_text n.left.0 n.right.0 ++ (two_text n.min n.max ++ (optional_text w ++ (41 ∷ 10 ∷ []))))
 unfolding word_of
 net_parts n w =

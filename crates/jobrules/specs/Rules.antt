@@ -1,19 +1,18 @@
 -- The outcome of a line that gives a net or a block, and what the nets above it come to.
-use Rattle.std.specs.Prelude.{◌≡◌, List, ℕ, ◌≤◌, eqb, length}
+use Rattle.std.specs.Prelude.{◌≡◌, List, ℕ, ◌≤◌, eqb, length, Result, Ok, Err}
 use Rattle.lists.specs.Lists.{any_of}
 use Rattle.board.specs.declared.Board.{Board}
 use Rattle.board.specs.declared.Net.{Net}
 use Rattle.board.specs.Job.{Job}
 use Rattle.blockmap.specs.Bits.{is_set}
-use Rattle.jobfile.specs.declared.Outcome.{Outcome}
-use Rattle.jobfile.specs.declared.Outcome.TheVariants.{Accepted}
+use Rattle.jobfile.specs.declared.Refusal.{Refusal}
 use Rattle.jobfile.specs.Read.{Next, go, stop}
 use Rattle.jobrules.specs.declared.UsedPins.{UsedPins}
 
 -- the outcome of a line: nothing is refused where the lines go on
-unfoldable pub outcome_of : Next → Outcome
-outcome_of (go s) = Accepted
-outcome_of (stop o) = o
+unfoldable pub outcome_of : Next → Result (Unit {0}) Refusal
+outcome_of (go s) = Ok tt
+outcome_of (stop o) = Err o
 
 -- L and R of a net are rows of the largest board
 pub record RowsInRange (net : Net) : Type 0 where

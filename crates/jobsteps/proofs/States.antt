@@ -1,5 +1,6 @@
 -- The states that a reading goes through are ones that the code can hold, and a refusal names the line at which it stands. Assumes
 -- nothing.
+use Rattle.std.specs.Prelude.{Option}
 use Prim.Native.Nat.{ℕ, zero, suc, ◌≤◌}
 use mathlib.Core.Path.{◌≡◌, refl, ap}
 use mathlib.Core.Bool.{Bool, true, false}
@@ -13,16 +14,17 @@ use Rattle.board.specs.declared.StoredJob.{StoredJob}
 use Rattle.board.specs.Job.{Job}
 use Rattle.board.specs.Accepted.{BoardInRange}
 use Rattle.board.specs.Stored.{job_of, stored_of}
-use Rattle.jobfile.specs.declared.Optional.{Optional}
 use Rattle.jobfile.specs.declared.Form.{Form}
 use Rattle.jobfile.specs.declared.Form.TheVariants as Is
-use Rattle.jobfile.specs.declared.Outcome.{Outcome}
-use Rattle.jobfile.specs.declared.Outcome.TheVariants.{NotOfForm}
+use Rattle.jobfile.specs.declared.Refusal.{Refusal}
+use Rattle.jobfile.specs.declared.Refusal.TheVariants.{NotOfForm}
 use Rattle.jobfile.specs.Read.{State, start, opened, sized, filled, closed, Next, go, stop, unless, at_start, at_opened, at_sized, at_filled, net_given, block_of, board_of, empty_job, test_net, add_net, add_block, step}
-use Rattle.jobfile.specs.Answers.{number_of, line_of}
+use Rattle.jobfile.specs.Answers.{line_of}
 use Rattle.jobfile.proofs.Tests.{within_is}
 use Rattle.board.proofs.StoredJobs.{job_back}
 use Rattle.jobsteps.specs.LinesAbove.{state_of, stage_of, value_of, Filled, FilledAt, Held}
+use Rattle.jobsteps.specs.declared.Stage.{Stage}
+use Rattle.jobsteps.specs.declared.Stage.TheVariants as At
 use Rattle.jobsteps.proofs.Slots.{nets_used, blocks_used}
 
 -- a job whose size is in range and that has room for its nets and blocks
@@ -77,41 +79,41 @@ filled_sized job f =
       blocks_count = omega (arith, blocks_used job f);
     }
 
-good_at : (stage : ℕ) (job : StoredJob) → FilledAt stage job → SizedState (state_of stage job)
+good_at : (stage : Stage) (job : StoredJob) → FilledAt stage job → SizedState (state_of stage job)
 unfolding state_of
-good_at zero job r = tt
-good_at (suc zero) job r = tt
-good_at (suc (suc zero)) job r = r
-good_at (suc (suc (suc zero))) job r = filled_sized job r
-good_at (suc (suc (suc (suc stage)))) job r = filled_sized job r
+good_at At.Start job r = tt
+good_at At.Opened job r = tt
+good_at At.Sized job r = r
+good_at At.Filled job r = filled_sized job r
+good_at At.Closed job r = filled_sized job r
 
-pub held_good : (stage : ℕ) (job : StoredJob) → Held stage job → SizedState (state_of stage job)
+pub held_good : (stage : Stage) (job : StoredJob) → Held stage job → SizedState (state_of stage job)
 held_good stage job h = good_at stage job h.ranges
 
 -- ---- a line leads to a good state, or to a refusal on its line
 
 abbrev pub LeadsOn : ℕ → Next → Type 0
 LeadsOn k (go s) = SizedState s
-LeadsOn k (stop o) = (number_of o ≡ 0 → ⊥) × (line_of o ≡ k)
+LeadsOn k (stop o) = line_of o ≡ k
 
 not_form : (k : ℕ) → LeadsOn k (stop (NotOfForm k))
-not_form k = (λ z. omega arith, refl)
+not_form k = refl
 
-unless_sound : (k : ℕ) (b : Bool) (o : Outcome) (x : Next) → (number_of o ≡ 0 → ⊥) → line_of o ≡ k → (b ≡ true → LeadsOn k x) → LeadsOn k (unless b o x)
+unless_sound : (k : ℕ) (b : Bool) (o : Refusal) (x : Next) → line_of o ≡ k → (b ≡ true → LeadsOn k x) → LeadsOn k (unless b o x)
 unfolding unless
-unless_sound k true o x h l f = f refl
-unless_sound k false o x h l f = (h, l)
+unless_sound k true o x l f = f refl
+unless_sound k false o x l f = l
 
-net_sound : (k : ℕ) (n : Net) (w : Optional) (job : Job) → Sized job → LeadsOn k (add_net k n w job)
+net_sound : (k : ℕ) (n : Net) (w : Option ℕ) (job : Job) → Sized job → LeadsOn k (add_net k n w job)
 unfolding add_net test_net
 net_sound k n w job g =
-    unless_sound k _ _ _ (λ z. omega arith) refl (λ e3.
-    unless_sound k _ _ _ (λ z. omega arith) refl (λ e4.
-    unless_sound k _ _ _ (λ z. omega arith) refl (λ e5.
-    unless_sound k _ _ _ (λ z. omega arith) refl (λ e6.
-    unless_sound k _ _ _ (λ z. omega arith) refl (λ e7.
-    unless_sound k _ _ _ (λ z. omega arith) refl (λ e8.
-    unless_sound k _ _ _ (λ z. omega arith) refl (λ e9.
+    unless_sound k _ _ _ refl (λ e3.
+    unless_sound k _ _ _ refl (λ e4.
+    unless_sound k _ _ _ refl (λ e5.
+    unless_sound k _ _ _ refl (λ e6.
+    unless_sound k _ _ _ refl (λ e7.
+    unless_sound k _ _ _ refl (λ e8.
+    unless_sound k _ _ _ refl (λ e9.
     record {
       board_range = g.board_range;
       nets_count = omega (arith, length-append job.nets (n ∷ []), ltb-true (length job.nets) 512 e4);
@@ -121,8 +123,8 @@ net_sound k n w job g =
 block_sound : (k : ℕ) (b : Block) (job : Job) → Sized job → LeadsOn k (add_block k b job)
 unfolding add_block
 block_sound k b job g =
-    unless_sound k _ _ _ (λ z. omega arith) refl (λ e3.
-    unless_sound k _ _ _ (λ z. omega arith) refl (λ e4.
+    unless_sound k _ _ _ refl (λ e3.
+    unless_sound k _ _ _ refl (λ e4.
     record {
       board_range = g.board_range;
       nets_count = g.nets_count;
@@ -170,10 +172,10 @@ unfolding step
 step_sound k s Is.Blank g = g
 step_sound k s Is.Board g = start_sound k s (go opened) tt
 step_sound k s (Is.Rows h) g =
-    opened_sound k s _ (unless_sound k _ _ (go (sized h)) (λ z. omega arith) refl (λ e. (within_is 1 1024 h).0 e))
+    opened_sound k s _ (unless_sound k _ _ (go (sized h)) refl (λ e. (within_is 1 1024 h).0 e))
 step_sound k s (Is.Tracks t) g =
     sized_sound k s _ g (λ h r.
-    unless_sound k _ _ (go (filled (empty_job (board_of h t)))) (λ z. omega arith) refl (λ e. empty_sized h t r ((within_is 1 128 t).0 e)))
+    unless_sound k _ _ (go (filled (empty_job (board_of h t)))) refl (λ e. empty_sized h t r ((within_is 1 128 t).0 e)))
 step_sound k s (Is.Net i l r lo hi w) g =
     filled_sound k s _ g (λ j a. net_sound k (net_given j.board i l r lo hi w) w j a)
 step_sound k s (Is.Block t a b) g = filled_sound k s _ g (λ j c. block_sound k (block_of t a b) j c)

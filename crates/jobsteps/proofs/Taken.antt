@@ -1,22 +1,20 @@
 -- What is held behind a line that is not refused: the stage and the job by value of the state that the line leads to. Assumes nothing.
+use Rattle.std.specs.Prelude.{Option, None, Some}
 use Prim.Native.Nat.{ℕ, ◌+◌, ◌<◌}
 use mathlib.Core.Path.{◌≡◌, refl, sym, ap, ◌∙◌}
 use mathlib.Core.List.{[], ◌∷◌, ◌++◌}
 use native.Mathlib.Omega.{arith}
 use lib.ListN.{set}
-use borrow.Author.Tests.{eqb-true}
 use Rattle.board.specs.declared.Net.{Net}
 use Rattle.board.specs.declared.Block.{Block}
 use Rattle.board.specs.declared.StoredJob.{StoredJob}
 use Rattle.board.specs.Job as J
 use Rattle.board.specs.Stored.{job_of, stored_of}
 use Rattle.board.specs.Accepted.{BoardInRange, NetInRange}
-use Rattle.jobfile.specs.declared.Optional.{Optional}
 use Rattle.jobfile.specs.declared.Form.{Form}
 use Rattle.jobfile.specs.declared.Form.TheVariants as Is
-use Rattle.jobfile.specs.declared.Outcome.TheVariants.{OutOfRange}
+use Rattle.jobfile.specs.declared.Refusal.TheVariants.{OutOfRange}
 use Rattle.jobfile.specs.Read.{State, opened, sized, filled, closed, Next, go, unless, within, at_start, at_opened, at_sized, at_filled, board_of, empty_job, with_weight, with_net, with_block, add_net, add_block, step}
-use Rattle.jobfile.specs.Answers.{number_of}
 use Rattle.board.proofs.StoredJobs.{job_back}
 use Rattle.jobrules.specs.Rules.{outcome_of, RowsInRange}
 use Rattle.jobrules.proofs.Pins.{rows_in_range}
@@ -24,19 +22,21 @@ use Rattle.jobrules.proofs.Outcomes.{Passes, unless_leads, net_few, net_ranged, 
 use Rattle.jobfile.proofs.Tests.{net_range_is}
 use Rattle.jobsteps.specs.LinesAbove.{form_stands, entry_of, at_stage, head_after, state_of, stage_of, value_of, Filled, Held, job_above, PinsAbove, NetAfter}
 use Rattle.jobsteps.specs.declared.LinesAbove.{LinesAbove}
-use Rattle.jobsteps.specs.declared.Entry.TheVariants.{OfNet, OfBlock, Nothing}
+use Rattle.jobsteps.specs.declared.Entry.TheVariants.{OfNet, OfBlock}
+use Rattle.jobsteps.specs.declared.Stage.{Stage}
+use Rattle.jobsteps.specs.declared.Stage.TheVariants as At
 use Rattle.jobsteps.proofs.Slots.{nets_used, blocks_used, net_more, block_more}
-use Rattle.jobsteps.proofs.Lines.{stands, net_line, block_line}
+use Rattle.jobsteps.proofs.Lines.{start_here, opened_here, sized_here, filled_here, stands, net_line, block_line}
 
 -- a line goes on to a state that a stage and a job by value hold
-pub record GoesOn (y : Next) (stage : ℕ) (job : StoredJob) : Type 0 where
+pub record GoesOn (y : Next) (stage : Stage) (job : StoredJob) : Type 0 where
   pub state : State
   pub goes : y ≡ go state
   pub stage_is : stage_of state ≡ stage
   pub value_is : value_of state ≡ job
 
 passes_as : {x y : Next} → x ≡ y → Passes x → Passes y
-passes_as e p = sym (ap (λ (z : Next). number_of (outcome_of z)) e) ∙ p
+passes_as e p = sym (ap outcome_of e) ∙ p
 
 module _ (k : ℕ) (a : LinesAbove) (slots : StoredJob) (h : Held a.stage (job_above a slots)) where
   abbrev led : Form → Next
@@ -50,25 +50,25 @@ module _ (k : ℕ) (a : LinesAbove) (slots : StoredJob) (h : Held a.stage (job_a
 
   not_other : Passes (led Is.Other) → ⊥
   unfolding step outcome_of
-  not_other q = omega arith
+  not_other q = cc
 
-  board_on : a.stage ≡ 0 → GoesOn (led Is.Board) 1 (job_above a slots)
+  board_on : a.stage ≡ At.Start → GoesOn (led Is.Board) At.Opened (job_above a slots)
   unfolding step state_of at_start stage_of value_of
   board_on s = record { state = opened; goes = rw s; stage_is = refl; value_is = rw s at h.value }
 
-  rows_on : (x : ℕ) → a.stage ≡ 1 → Passes (led (Is.Rows x)) → GoesOn (led (Is.Rows x)) 2 (job_above (at_stage 2 (board_of x 0) a) slots)
+  rows_on : (x : ℕ) → a.stage ≡ At.Opened → Passes (led (Is.Rows x)) → GoesOn (led (Is.Rows x)) At.Sized (job_above (at_stage At.Sized (board_of x 0) a) slots)
   unfolding step state_of at_opened stage_of value_of stored_of
   rows_on x s p =
       let e : led (Is.Rows x) ≡ unless (within 1 1024 x) (OutOfRange k) (go (sized x)) = rw s in
       let v : stored_of (empty_job (board_of 0 0)) ≡ job_above a slots = rw s at h.value in
       record {
         state = sized x;
-        goes = e ∙ unless_leads _ _ _ _ (λ z. omega arith) (λ q. refl) (passes_as e p);
+        goes = e ∙ unless_leads _ _ _ _ (λ q. refl) (passes_as e p);
         stage_is = refl;
         value_is = ap (λ (w : StoredJob). record { board = board_of x 0; nnets = w.nnets; nblocks = w.nblocks; nets = w.nets; blocks = w.blocks }) v;
       }
 
-  tracks_on : (x : ℕ) → a.stage ≡ 2 → Passes (led (Is.Tracks x)) → GoesOn (led (Is.Tracks x)) 3 (job_above (at_stage 3 (board_of a.board.rows x) a) slots)
+  tracks_on : (x : ℕ) → a.stage ≡ At.Sized → Passes (led (Is.Tracks x)) → GoesOn (led (Is.Tracks x)) At.Filled (job_above (at_stage At.Filled (board_of a.board.rows x) a) slots)
   unfolding step state_of at_sized stage_of value_of stored_of
   tracks_on x s p =
       let b = board_of a.board.rows x in
@@ -76,26 +76,26 @@ module _ (k : ℕ) (a : LinesAbove) (slots : StoredJob) (h : Held a.stage (job_a
       let v : stored_of (empty_job (board_of a.board.rows 0)) ≡ job_above a slots = rw s at h.value in
       record {
         state = filled (empty_job b);
-        goes = e ∙ unless_leads _ _ _ _ (λ z. omega arith) (λ q. refl) (passes_as e p);
+        goes = e ∙ unless_leads _ _ _ _ (λ q. refl) (passes_as e p);
         stage_is = refl;
         value_is = ap (λ (w : StoredJob). record { board = b; nnets = w.nnets; nblocks = w.nblocks; nets = w.nets; blocks = w.blocks }) v;
       }
 
-  close_on : a.stage ≡ 3 → GoesOn (led Is.Close) 4 (job_above a slots)
+  close_on : a.stage ≡ At.Filled → GoesOn (led Is.Close) At.Closed (job_above a slots)
   unfolding step state_of at_filled stage_of value_of
   close_on s =
       let f : Filled (job_above a slots) = rw s at h.ranges in
       record { state = closed (job_of (job_above a slots)); goes = rw s; stage_is = refl; value_is = f.stored }
 
-  pub head_on : (form : Form) → Nothing ≡ entry_of form → Passes (led form) → GoesOn (led form) (head_after a form).stage (job_above (head_after a form) slots)
+  pub head_on : (form : Form) → None ≡ entry_of form → Passes (led form) → GoesOn (led form) (head_after a form).stage (job_above (head_after a form) slots)
   unfolding entry_of head_after form_stands
   head_on Is.Blank e p = blank_on
-  head_on Is.Board e p = board_on (eqb-true a.stage 0 (stands k a.stage (job_above a slots) Is.Board p))
-  head_on (Is.Rows x) e p = rows_on x (eqb-true a.stage 1 (stands k a.stage (job_above a slots) (Is.Rows x) p)) p
-  head_on (Is.Tracks x) e p = tracks_on x (eqb-true a.stage 2 (stands k a.stage (job_above a slots) (Is.Tracks x) p)) p
-  head_on (Is.Net i l r lo hi w) e p = let z : ◌≡◌ {A = ℕ} 0 1 = cc in absurd (omega arith)
-  head_on (Is.Block t x y) e p = let z : ◌≡◌ {A = ℕ} 0 1 = cc in absurd (omega arith)
-  head_on Is.Close e p = close_on (eqb-true a.stage 3 (stands k a.stage (job_above a slots) Is.Close p))
+  head_on Is.Board e p = board_on (start_here a.stage (stands k a.stage (job_above a slots) Is.Board p))
+  head_on (Is.Rows x) e p = rows_on x (opened_here x a.stage (stands k a.stage (job_above a slots) (Is.Rows x) p)) p
+  head_on (Is.Tracks x) e p = tracks_on x (sized_here x a.stage (stands k a.stage (job_above a slots) (Is.Tracks x) p)) p
+  head_on (Is.Net i l r lo hi w) e p = cc
+  head_on (Is.Block t x y) e p = cc
+  head_on Is.Close e p = close_on (filled_here a.stage (stands k a.stage (job_above a slots) Is.Close p))
   head_on Is.Other e p = absurd (not_other p)
 
   pub head_nets : (form : Form) → PinsAbove (job_of (job_above a slots)).nets a → PinsAbove (job_of (job_above (head_after a form) slots)).nets (head_after a form)
@@ -111,12 +111,12 @@ module _ (k : ℕ) (a : LinesAbove) (slots : StoredJob) (h : Held a.stage (job_a
 
   -- ---- a line that gives a net
 
-  module _ (form : Form) (given : Net) (weight : Optional) (e : OfNet given weight ≡ entry_of form) (p : Passes (led form)) where
+  module _ (form : Form) (given : Net) (weight : Option ℕ) (e : Some (OfNet given weight) ≡ entry_of form) (p : Passes (led form)) where
     -- the net with its weight
     abbrev n : Net
     n = with_weight a.board given weight
 
-    net_here : (a.stage ≡ 3) × (led form ≡ add_net k n weight (job_of (job_above a slots)))
+    net_here : (a.stage ≡ At.Filled) × (led form ≡ add_net k n weight (job_of (job_above a slots)))
     net_here = net_line k a.stage (job_above a slots) form given weight e (stands k a.stage (job_above a slots) form p)
 
     net_passes : Passes (add_net k n weight (job_of (job_above a slots)))
@@ -164,8 +164,8 @@ module _ (k : ℕ) (a : LinesAbove) (slots : StoredJob) (h : Held a.stage (job_a
 
   -- ---- a line that gives a block
 
-  module _ (form : Form) (b : Block) (e : OfBlock b ≡ entry_of form) (p : Passes (led form)) where
-    block_here : (a.stage ≡ 3) × (led form ≡ add_block k b (job_of (job_above a slots)))
+  module _ (form : Form) (b : Block) (e : Some (OfBlock b) ≡ entry_of form) (p : Passes (led form)) where
+    block_here : (a.stage ≡ At.Filled) × (led form ≡ add_block k b (job_of (job_above a slots)))
     block_here = block_line k a.stage (job_above a slots) form b e (stands k a.stage (job_above a slots) form p)
 
     block_passes : Passes (add_block k b (job_of (job_above a slots)))

@@ -9,31 +9,29 @@ ghost use Rattle.jobrules.specs.Rules.{outcome_of, RowsInRange};
 ghost use Rattle.jobsteps.specs.LinesAbove.{form_stands, entry_of, head_after, state_of, NothingAbove, AboveOf, NetAfter};
 
 use board::{Block, Board, Net, Row, Track};
-use jobfile::{Form, Optional, Outcome};
+use jobfile::{Form, Refusal};
 use jobrules::UsedPins;
 
-// The stages: how far the lines above go.
-
-// Nothing stands above.
-const START: usize = 0;
-
-// `(board` stands above.
-const OPENED: usize = 1;
-
-// `(rows H)` too.
-const SIZED: usize = 2;
-
-// `(tracks K)` too, and any nets and blocks behind it.
-const FILLED: usize = 3;
-
-// The closing bracket too.
-pub const CLOSED: usize = 4;
+// How far the lines above go.
+#[derive(Clone, Copy, PartialEq, Eq)]
+pub enum Stage {
+    // nothing stands above
+    Start,
+    // `(board` stands above
+    Opened,
+    // `(rows H)` too
+    Sized,
+    // `(tracks K)` too, and any nets and blocks behind it
+    Filled,
+    // the closing bracket too
+    Closed,
+}
 
 // What the lines above come to, but for the nets and blocks themselves: the stage, the size of the board, how many nets and blocks there
 // are, the number of the last net, and the pins that the nets use. It goes by reference, as its some 300 bytes would be copied for each line.
 #[derive(Clone, Copy)]
 pub struct LinesAbove {
-    pub stage: usize,
+    pub stage: Stage,
     pub board: Board,
     pub nnets: usize,
     pub nblocks: usize,
@@ -44,9 +42,8 @@ pub struct LinesAbove {
 // What a line adds to the job: a net, still without a weight, and the weight that its line gives it; or a block.
 #[derive(Clone, Copy)]
 pub enum Entry {
-    OfNet(Net, Optional),
+    OfNet(Net, Option<usize>),
     OfBlock(Block),
-    Nothing,
 }
 
 // Nothing stands above.
@@ -55,7 +52,7 @@ pub fn nothing_above() -> LinesAbove
 {
     let used = jobrules::no_pins();
     LinesAbove {
-        stage: START,
+        stage: Stage::Start,
         board: Board { rows: 0, tracks: 0 },
         nnets: 0,
         nblocks: 0,
@@ -75,25 +72,23 @@ pub fn net_after(above: &mut LinesAbove, net: Net)
 }
 
 // Holds a line that gives neither a net nor a block: the next stage, and H and K where the line has them.
+#[tactic(auto, unfolding(crate::specs::LinesAbove::head_after))]
 pub fn head_after(above: &mut LinesAbove, form: Form)
     ensures { above.new ≡ head_after above.old form }
 {
     match form {
-        Form::Blank => {}
-        Form::Board => above.stage = OPENED,
+        Form::Board => above.stage = Stage::Opened,
         Form::Rows(h) => {
-            above.stage = SIZED;
+            above.stage = Stage::Sized;
             above.board.rows = h;
             above.board.tracks = 0;
         }
         Form::Tracks(k) => {
-            above.stage = FILLED;
+            above.stage = Stage::Filled;
             above.board.tracks = k;
         }
-        Form::Net(_, _, _, _, _, _) => {}
-        Form::Block(_, _, _) => {}
-        Form::Close => above.stage = CLOSED,
-        Form::Other => {}
+        Form::Close => above.stage = Stage::Closed,
+        Form::Blank | Form::Net(_, _, _, _, _, _) | Form::Block(_, _, _) | Form::Other => {}
     }
 }
 
@@ -123,60 +118,58 @@ fn block_on_line(track: usize, first: usize, last: usize) -> Block
 }
 
 // The net or the block that a line of this form gives.
-pub fn entry_of(form: Form) -> Entry
+#[tactic(auto, unfolding(crate::specs::LinesAbove::entry_of))]
+pub fn entry_of(form: Form) -> Option<Entry>
     ensures { result ≡ entry_of form }
 {
     match form {
-        Form::Blank => Entry::Nothing,
-        Form::Board => Entry::Nothing,
-        Form::Rows(_) => Entry::Nothing,
-        Form::Tracks(_) => Entry::Nothing,
         Form::Net(number, left, right, min, max, weight) => {
-            Entry::OfNet(net_on_line(number, left, right, min, max), weight)
+            Some(Entry::OfNet(net_on_line(number, left, right, min, max), weight))
         }
-        Form::Block(track, first, last) => Entry::OfBlock(block_on_line(track, first, last)),
-        Form::Close => Entry::Nothing,
-        Form::Other => Entry::Nothing,
+        Form::Block(track, first, last) => Some(Entry::OfBlock(block_on_line(track, first, last))),
+        Form::Blank | Form::Board | Form::Rows(_) | Form::Tracks(_) | Form::Close | Form::Other =>
+            None,
     }
 }
 
 // Whether a line of this form may stand at a stage: refusal 2.
-fn form_stands(stage: usize, form: Form) -> bool
+#[tactic(auto, unfolding(crate::specs::LinesAbove::form_stands))]
+fn form_stands(stage: Stage, form: Form) -> bool
     ensures { result ≡ form_stands stage form }
 {
     match form {
         Form::Blank => true,
-        Form::Board => stage == START,
-        Form::Rows(_) => stage == OPENED,
-        Form::Tracks(_) => stage == SIZED,
-        Form::Net(_, _, _, _, _, _) => stage == FILLED,
-        Form::Block(_, _, _) => stage == FILLED,
-        Form::Close => stage == FILLED,
+        Form::Board => matches!(stage, Stage::Start),
+        Form::Rows(_) => matches!(stage, Stage::Opened),
+        Form::Tracks(_) => matches!(stage, Stage::Sized),
+        Form::Net(_, _, _, _, _, _) => matches!(stage, Stage::Filled),
+        Form::Block(_, _, _) => matches!(stage, Stage::Filled),
+        Form::Close => matches!(stage, Stage::Filled),
         Form::Other => false,
     }
 }
 
 // Refusal 3 of H or K: it has to be from 1 to `most`.
-fn size_outcome(most: usize, x: usize, line: usize) -> Outcome
-    ensures { (s : State) → result ≡ outcome_of (unless (within 1 most x) (Outcome.OutOfRange line) (go s)) }
+fn size_outcome(most: usize, x: usize, line: usize) -> Result<(), Refusal>
+    ensures { (s : State) → result ≡ outcome_of (unless (within 1 most x) (Refusal.OutOfRange line) (go s)) }
 {
     if !jobrules::is_within(1, most, x) {
-        return Outcome::OutOfRange(line);
+        return Err(Refusal::OutOfRange(line));
     }
-    Outcome::Accepted
+    Ok(())
 }
 
 // Refusals 2 to 9 of a line, the first that fits.
-pub fn form_outcome(above: &LinesAbove, form: Form, line: usize) -> Outcome
-    requires { above.now.stage ≡ 3 → BoardInRange above.now.board }
+pub fn form_outcome(above: &LinesAbove, form: Form, line: usize) -> Result<(), Refusal>
+    requires { above.now.stage ≡ Stage.Filled → BoardInRange above.now.board }
     ensures { (job : StoredJob) → AboveOf above.now job → result ≡ outcome_of (step line (state_of above.now.stage job) form) }
 {
     if !form_stands(above.stage, form) {
-        return Outcome::NotOfForm(line);
+        return Err(Refusal::NotOfForm(line));
     }
     match form {
-        Form::Blank => Outcome::Accepted,
-        Form::Board => Outcome::Accepted,
+        Form::Blank => Ok(()),
+        Form::Board => Ok(()),
         Form::Rows(h) => size_outcome(1024, h, line),
         Form::Tracks(k) => size_outcome(128, k, line),
         Form::Net(number, left, right, min, max, weight) => {
@@ -196,7 +189,7 @@ pub fn form_outcome(above: &LinesAbove, form: Form, line: usize) -> Outcome
             let block = block_on_line(track, first, last);
             jobrules::block_outcome(above.board, above.nblocks, block, line)
         }
-        Form::Close => Outcome::Accepted,
-        Form::Other => Outcome::NotOfForm(line),
+        Form::Close => Ok(()),
+        Form::Other => Err(Refusal::NotOfForm(line)),
     }
 }

@@ -1,8 +1,8 @@
 -- One more net with a line, by value; and the test of a wire drawn on values is that of the definitions. Assumes nothing.
 use Prim.Native.Nat.{ℕ, zero, suc, ◌+◌, ◌-◌, ◌≤◌, ◌<◌}
 use mathlib.Core.Path.{◌≡◌, refl, sym, ap, subst, ◌∙◌}
-use mathlib.Core.Bool.{Bool, true, false, not, cond, ◌&&◌, ◌||◌, and-true, and-false}
-use mathlib.Core.Option.{some}
+use mathlib.Core.Bool.{Bool, true, false, not, ◌&&◌, ◌||◌, and-false}
+use Rattle.std.specs.Prelude.{Option, None, Some}
 use mathlib.Core.List.{List, [], ◌∷◌, ◌++◌, map, Memᴰ}
 use native.Mathlib.Omega.{arith}
 use lib.Dec.{eqb, ltb}
@@ -16,24 +16,23 @@ use Rattle.lists.proofs.Joins.{any_of_more}
 use Rattle.lists.proofs.Places.{mem_at, map_at}
 use Rattle.board.specs.declared.Board.{Board}
 use Rattle.board.specs.declared.Net.{Net}
-use Rattle.board.specs.declared.Shape.{Shape}
 use Rattle.board.specs.Job.{Job}
 use Rattle.board.specs.Length.{span, extra}
 use Rattle.board.specs.Placement.{placement_at, covered}
 use Rattle.board.specs.Stored.{no_net}
 use Rattle.board.specs.Accepted.{AcceptedJob}
-use Rattle.board.specs.Tests.{is_on, is_before, is_long, is_short, is_clear, is_ready}
+use Rattle.board.specs.Tests.{is_on, is_long, is_short, is_clear, is_ready}
 use Rattle.blockmap.specs.Clear.{all_unset}
-use Rattle.candidates.specs.Placed.{index_from, Placed}
+use Rattle.candidates.specs.Placed.{before_in, none_or}
 use Rattle.candidates.proofs.Eligible.{all_on}
 use Rattle.blockmap.proofs.ClearRows.{clear_same}
 use Rattle.drc.specs.Judge.{is_sound_place, is_unlined}
 use Rattle.drc.specs.Pass.{Summary, is_next_wire}
-use Rattle.judging.specs.declared.LinesJudged.{LinesJudged}
-use Rattle.judging.specs.declared.NetFound.{NetFound}
+use Rattle.judging.specs.declared.LinesAbove.{LinesAbove}
+use Rattle.judging.specs.declared.WireDrawn.{WireDrawn}
 use Rattle.judging.specs.Judged.{NetLines}
 use Rattle.judging.proofs.Indexes.{index_number, index_none}
-use Rattle.judging.specs.Values.{is_numbered, is_allowed, ready_at, is_next_at, NetIs, MapOf}
+use Rattle.judging.specs.Values.{is_numbered, position_numbered, is_allowed, ready_at, is_next_at, NetIs, MapOf}
 
 -- ---- one more line
 
@@ -53,12 +52,6 @@ one_place (n ∷ ns) p zero zero h l e = refl
 one_place (n ∷ ns) p zero (suc k) h l e = let o = least_number ns n p.0 k (omega arith) in absurd (omega arith)
 one_place (n ∷ ns) p (suc i) zero h l e = let o = least_number ns n p.0 i (omega arith) in absurd (omega arith)
 one_place (n ∷ ns) p (suc i) (suc k) h l e = ap suc (one_place ns p.1 i k (omega arith) (omega arith) e)
-
--- a function that keeps 0, at a place of a list
-map_zero : (f : ℕ → ℕ) → f 0 ≡ 0 → (xs : List ℕ) (k : ℕ) → get_or (map f xs) k 0 ≡ f (get_or xs k 0)
-map_zero f z [] k = sym z
-map_zero f z (x ∷ xs) zero = refl
-map_zero f z (x ∷ xs) (suc k) = map_zero f z xs k
 
 not-not : (b : Bool) → not (not b) ≡ b
 not-not true = refl
@@ -132,52 +125,45 @@ module _ (job : Job) (a : AcceptedJob job) where
 
   -- ---- a net without a line
 
-  pub unlined_same : (m : Summary) (stands : List ℕ) → NetLines job m stands → (k index : ℕ) → index ≡ index_from (is_numbered k) 0 job.nets →
-      is_unlined job m.lined k ≡ (not (eqb index 512) && eqb (get_or stands index 0) 0)
+  -- no net has the number
+  pub unlined_none : (m : Summary) (k : ℕ) → None ≡ position_numbered k job.nets → is_unlined job m.lined k ≡ false
+  unfolding is_unlined
+  unlined_none m k is = rw (no_number job.nets k (index_none job.nets k is))
+
+  -- a net has it
+  pub unlined_some : (m : Summary) (stands : List ℕ) → NetLines job m stands → (k index : ℕ) → Some index ≡ position_numbered k job.nets →
+      is_unlined job m.lined k ≡ eqb (get_or stands index 0) 0
   unfolding is_unlined is_on
-  unlined_same m stands old k index is =
-      by_test (eqb index 512)
-      (λ t. rw (t, no_number job.nets k (index_none job k index a is (eqb-true index 512 t))))
-      (λ t.
-      let at = index_number job k index is (eqb-false index 512 t) in
+  unlined_some m stands old k index is =
+      let at = index_number job.nets k index is in
       let on : any_of (eqb k) m.lined ≡ not (eqb (get_or stands index 0) 0) = ap (λ (q : ℕ). any_of (eqb q) m.lined) (sym at.1) ∙ old.lined_at index at.0 in
-      rw (t, some_number job.nets k index at.0 at.1, on, not-not (eqb (get_or stands index 0) 0)))
+      rw (some_number job.nets k index at.0 at.1, on, not-not (eqb (get_or stands index 0) 0))
 
   -- ---- the net that precedes
 
   module _ (m : Summary) (stands : List ℕ) (old : NetLines job m stands) where
-    -- the track of a net that has its line on an earlier track, 0 for any other
-    abbrev before_track : ℕ → ℕ
-    before_track s = cond (ltb s m.track) s 0
+    -- net k has its line on an earlier track
+    abbrev on_earlier : ℕ → Bool
+    on_earlier k = not (eqb (get_or stands k 0) 0) && ltb (get_or stands k 0) m.track
 
-    earlier_test : (s : ℕ) → (not (eqb s 0) && ltb s m.track) ≡ not (eqb (before_track s) 0)
-    earlier_test s =
-        by_test (ltb s m.track)
-        (λ t. rw t (and-true (not (eqb s 0))))
-        (λ t. rw t (and-false (not (eqb s 0))))
+    ready_or : (before : Option ℕ) → ready_at before stands m.track ≡ none_or on_earlier before
+    ready_or None = refl
+    ready_or (Some k) = refl
 
-    track_at : (k : ℕ) → get_or (map before_track stands) k 0 ≡ before_track (get_or stands k 0)
-    track_at k =
-        let z : before_track 0 ≡ 0 = by_test (ltb 0 m.track) (λ t. rw t) (λ t. rw t) in
-        map_zero before_track z stands k
-
-    on_earlier : Placed job (map before_track stands) m.earlier
-    on_earlier = record { each = λ k h. old.earlier_at k h ∙ earlier_test (get_or stands k 0) ∙ ap (λ s. not (eqb s 0)) (sym (track_at k)) }
-
-    pub ready_same : (n : Net) → ready_at (index_from (λ q. is_before q n) 0 job.nets) stands m.track ≡ is_ready job m.earlier n
-    unfolding ready_at is_ready
-    ready_same n =
-        let before = index_from (λ q. is_before q n) 0 job.nets in
-        ap (λ b. eqb before 512 || b) (earlier_test (get_or stands before 0) ∙ ap (λ s. not (eqb s 0)) (sym (track_at before))) ∙
-        sym (all_on job a (map before_track stands) m.earlier on_earlier n)
+    pub ready_same : (n : Net) → ready_at (before_in job.nets n) stands m.track ≡ is_ready job m.earlier n
+    unfolding is_ready
+    ready_same n = ready_or (before_in job.nets n) ∙ sym (all_on job a m.earlier on_earlier old.earlier_at n)
 
     -- ---- a wire drawn
 
-    pub next_same : (words : List ℕ) (found : NetFound) (j : LinesJudged) (top : ℕ) (s : Shape) → NetIs job found → MapOf job m.track words →
+    pub next_same : (words : List ℕ) (w : WireDrawn) (j : LinesAbove) → NetIs job w.found → MapOf job m.track words →
         j.track.0 ≡ m.track → j.lowest.0 ≡ m.lowest →
-        is_next_at job.board words stands found j top s ≡ is_next_wire job m (some (placement_at found.net s top))
+        is_next_at job.board words stands w j ≡ is_next_wire job m (Some (placement_at w.found.net w.shape w.top.0))
     unfolding is_next_at is_allowed is_next_wire is_sound_place is_long is_short is_clear covered
-    next_same words found j top s is blocks on low =
+    next_same words w j is blocks on low =
+        let found = w.found in
+        let top = w.top.0 in
+        let s = w.shape in
         let rows : span found.net + 1 + extra s ≡ top + span found.net + extra s + 1 - top = omega arith in
         let lined : is_on m.lined found.net ≡ not (eqb (get_or stands found.index 0) 0) =
         ap (λ n. is_on m.lined n) (sym is.net_is) ∙ old.lined_at found.index is.index_range in
@@ -193,12 +179,12 @@ module _ (job : Job) (a : AcceptedJob job) where
         )
 
 -- a wire that may stand is of a net without a line above
-pub next_new : (board : Board) (words stands : List ℕ) (found : NetFound) (j : LinesJudged) (top : ℕ) (s : Shape) →
-    is_next_at board words stands found j top s ≡ true → eqb (get_or stands found.index 0) 0 ≡ true
+pub next_new : (board : Board) (words stands : List ℕ) (w : WireDrawn) (j : LinesAbove) →
+    is_next_at board words stands w j ≡ true → eqb (get_or stands w.found.index 0) 0 ≡ true
 unfolding is_next_at
-next_new board words stands found j top s t =
-    let long = is_allowed board found.net s in
-    let clear = all_unset words top (covered found.net s) in
-    let new = eqb (get_or stands found.index 0) 0 in
-    let ready = ready_at found.before stands j.track.0 in
-    (and_split (long && clear) new (and_split (long && clear && new) ready (and_split (long && clear && new && ready) (ltb j.lowest.0 top) t).0).0).1
+next_new board words stands w j t =
+    let long = is_allowed board w.found.net w.shape in
+    let clear = all_unset words w.top.0 (covered w.found.net w.shape) in
+    let new = eqb (get_or stands w.found.index 0) 0 in
+    let ready = ready_at w.found.before stands j.track.0 in
+    (and_split (long && clear) new (and_split (long && clear && new) ready (and_split (long && clear && new && ready) (ltb j.lowest.0 w.top.0) t).0).0).1

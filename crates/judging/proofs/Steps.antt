@@ -1,13 +1,13 @@
 -- What a line leads to, by value, is what it leads to in the pass. What a wire adds: WireSteps.antt. Assumes nothing.
 use Prim.Native.Nat.{ℕ, suc, ◌≤◌, ◌<◌}
 use mathlib.Core.Path.{◌≡◌, refl, sym, ap, subst, ◌∙◌}
-use mathlib.Core.Bool.{Bool, true, false, not, ◌&&◌, and-true, true≢false, false≢true}
-use mathlib.Core.Option.{Option}
+use mathlib.Core.Bool.{true, false, not, ◌&&◌, and-true, and-false}
+use Rattle.std.specs.Prelude.{Option, None, Some, Ok, Err, unwrap_or}
 use mathlib.Core.List.{List}
 use native.Mathlib.Omega.{arith}
 use lib.Dec.{eqb, leb, ltb}
 use lib.ListN.{length, get_or, set}
-use borrow.Author.Tests.{eq-eqb, eqb-true, eqb-false, lt-ltb, not-true}
+use borrow.Author.Tests.{eq-eqb, ne_eqb, eqb-true, lt-ltb, le-ltb}
 use Rattle.lists.specs.Lists.{any_of, all_of}
 use Rattle.lists.proofs.Cases.{and_split}
 use Rattle.board.specs.Job.{Job}
@@ -15,31 +15,30 @@ use Rattle.board.specs.Placement.{Placement}
 use Rattle.board.specs.Accepted.{AcceptedJob}
 use Rattle.board.specs.Tests.{is_on}
 use Rattle.layout.specs.Tree.{Wire, Line, opens, track, wire, loose, closes}
-use Rattle.candidates.specs.Placed.{index_from}
 use Rattle.drc.specs.Covers.{drawn_by}
 use Rattle.drc.specs.Judge.{ends_track, is_in_turn, is_opening, is_unlined}
-use Rattle.drc.specs.Pass.{Summary, add_track, add_wire, add_loose, PassState, unbegun, running, finished, passes_on, or_broken, pass_in_turn, pass_line}
-use Rattle.judging.specs.declared.LinesJudged.{LinesJudged}
-use Rattle.judging.specs.Judged.{breach_of, NetLines, KeepsSummary, KeepsState, KeepsStep}
-use Rattle.judging.specs.Values.{is_numbered, all_lined, broken_off, closed_of, settled_of}
-use Rattle.judging.proofs.Turns.{can_stand, closes_off, settled_off, settled_on}
-use Rattle.judging.proofs.LinedNets.{lined_same}
+use Rattle.drc.specs.Pass.{Summary, add_track, add_wire, add_loose, PassState, unbegun, running, finished, PassStep, passes_on, or_broken, judged_track, pass_in_turn, pass_line}
+use Rattle.judging.specs.declared.LinesAbove.{LinesAbove}
+use Rattle.judging.specs.declared.LinesJudged.TheVariants as Is
+use Rattle.judging.specs.Judged.{NetLines, KeepsSummary, KeepsState, KeepsStep}
+use Rattle.judging.specs.Values.{position_numbered, broken_track}
+use Rattle.judging.proofs.Turns.{can_stand, closes_off, judged_off, judged_on, unbroken}
+use Rattle.judging.proofs.LinedNets.{lined_all, lined_not}
 use Rattle.judging.proofs.Indexes.{index_number}
-use Rattle.judging.proofs.LinesAdded.{line_added, unlined_same}
+use Rattle.judging.proofs.LinesAdded.{line_added, unlined_none, unlined_some}
 
 -- ---- the opening line
 
 -- behind `(layout`
-abbrev pub opened : LinesJudged
-opened = record { stage = 1; track = record { 0 = 0 }; line = 0; printed = 0; sum = 0; lowest = record { 0 = 0 }; last = 0; breach = 0 }
+abbrev pub opened : LinesAbove
+opened = record { track = record { 0 = 0 }; line = 0; printed = 0; sum = 0; lowest = record { 0 = 0 }; last = 0; breach = None }
 
-pub opening_taken : (job : Job) (n : ℕ) (st : PassState) (j : LinesJudged) (stands : List ℕ) → j.stage ≡ 0 → KeepsState job st j stands →
-    KeepsStep job (pass_line job n st opens) opened stands
-unfolding pass_line or_broken is_opening breach_of is_on any_of
-opening_taken job n unbegun j stands e k =
-    let none_at : (i : ℕ) → get_or stands i 0 ≡ 0 = k.3 in
+pub opening_taken : (job : Job) (n : ℕ) (st : PassState) (stands : List ℕ) → KeepsState job st Is.Unbegun stands →
+    KeepsStep job (pass_line job n st opens) (Ok (Is.Running opened)) stands
+unfolding pass_line or_broken is_opening is_on any_of
+opening_taken job n unbegun stands k =
+    let none_at : (i : ℕ) → get_or stands i 0 ≡ 0 = k.1 in
     record {
-      stage_is = refl;
       track_is = refl;
       line_is = refl;
       printed_is = refl;
@@ -50,19 +49,26 @@ opening_taken job n unbegun j stands e k =
       lines_are = λ z. record {
         lined_at = λ i h. rw (eq-eqb (get_or stands i 0) 0 (none_at i));
         earlier_at = λ i h. rw (eq-eqb (get_or stands i 0) 0 (none_at i));
-        room = k.2;
+        room = k.0;
         to_track = λ i h. omega (arith, none_at i);
       };
     }
-opening_taken job n (running m) j stands e k = let o : ◌≡◌ {A = ℕ} 0 1 = sym e ∙ k.stage_is in absurd (omega arith)
-opening_taken job n finished j stands e k = let o : ◌≡◌ {A = ℕ} 0 2 = sym e ∙ k.0 in absurd (omega arith)
+opening_taken job n (running m) stands k = absurd k
+opening_taken job n finished stands k = absurd k
 
-pub opening_late : (job : Job) (n : ℕ) (st : PassState) (j : LinesJudged) (stands : List ℕ) → (j.stage ≡ 0 → ⊥) → KeepsState job st j stands →
-    KeepsStep job (pass_line job n st opens) (closed_of j n) stands
+pub opening_running : (job : Job) (n : ℕ) (st : PassState) (j : LinesAbove) (stands : List ℕ) → KeepsState job st (Is.Running j) stands →
+    KeepsStep job (pass_line job n st opens) (Err (unwrap_or j.breach n)) stands
 unfolding can_stand is_in_turn
-opening_late job n unbegun j stands d k = absurd (d k.0)
-opening_late job n (running m) j stands d k = closes_off job n (running m) opens j stands k refl
-opening_late job n finished j stands d k = closes_off job n finished opens j stands k refl
+opening_running job n unbegun j stands k = absurd k
+opening_running job n (running m) j stands k = closes_off job n (running m) opens (Is.Running j) stands k refl
+opening_running job n finished j stands k = absurd k
+
+pub opening_finished : (job : Job) (n : ℕ) (st : PassState) (stands : List ℕ) → KeepsState job st Is.Finished stands →
+    KeepsStep job (pass_line job n st opens) (Err n) stands
+unfolding can_stand
+opening_finished job n unbegun stands k = absurd k
+opening_finished job n (running m) stands k = absurd k
+opening_finished job n finished stands k = closes_off job n finished opens Is.Finished stands k refl
 
 -- ---- a line in its turn
 
@@ -70,49 +76,46 @@ in_turn : (job : Job) (n : ℕ) (m : Summary) (x : Line) → can_stand job (runn
 unfolding can_stand pass_line
 in_turn job n m x e = rw e
 
-module _ (job : Job) (n : ℕ) (j : LinesJudged) (stands : List ℕ) where
-  -- a pass that such a line can stand in, if it is not the opening line
-  runs : (st : PassState) (x : Line) → is_opening x ≡ false → can_stand job st x ≡ true → KeepsState job st j stands → (P : PassState → Type 0) →
+module _ (job : Job) (n : ℕ) (j : LinesAbove) (stands : List ℕ) where
+  -- a pass that keeps such lines runs
+  runs : (st : PassState) (x : Line) → can_stand job st x ≡ true → KeepsState job st (Is.Running j) stands → (P : PassState → Type 0) →
       ((m : Summary) → can_stand job (running m) x ≡ true → KeepsSummary job m j stands → P (running m)) → P st
-  unfolding can_stand
-  runs unbegun x o e k P f = absurd (true≢false (sym e ∙ o))
-  runs (running m) x o e k P f = f m e k
-  runs finished x o e k P f = absurd (false≢true e)
+  runs unbegun x e k P f = absurd k
+  runs (running m) x e k P f = f m e k
+  runs finished x e k P f = absurd k
 
-  -- the track above is broken
-  pub track_off : (st : PassState) (u s : ℕ) → can_stand job st (track u s) ≡ true → (settled_of j).stage ≡ 3 → KeepsState job st j stands →
-      KeepsStep job (pass_line job n st (track u s)) (settled_of j) stands
-  unfolding is_opening pass_in_turn
-  track_off st u s e b k =
-      runs st (track u s) refl e k (λ x. KeepsStep job (pass_line job n x (track u s)) (settled_of j) stands)
-      (λ m e' h. rw (in_turn job n m (track u s) e') (settled_off job m j stands h _ b))
+  -- a line that ends a track, which is broken
+  ends_broken : (st : PassState) (x : Line) (y : Summary → PassStep) → ((m : Summary) → pass_in_turn job n m x ≡ judged_track m (y m)) → (l : ℕ) →
+      broken_track j ≡ Some l → can_stand job st x ≡ true → KeepsState job st (Is.Running j) stands → KeepsStep job (pass_line job n st x) (Err l) stands
+  ends_broken st x y ends l b e k =
+      runs st x e k (λ s. KeepsStep job (pass_line job n s x) (Err l) stands)
+      (λ m t h. rw (in_turn job n m x t, ends m, judged_off job m j stands h (y m) l b) refl)
 
-  pub loose_off : (st : PassState) (i : ℕ) → can_stand job st (loose i) ≡ true → (settled_of j).stage ≡ 3 → KeepsState job st j stands →
-      KeepsStep job (pass_line job n st (loose i)) (settled_of j) stands
-  unfolding is_opening pass_in_turn
-  loose_off st i e b k =
-      runs st (loose i) refl e k (λ x. KeepsStep job (pass_line job n x (loose i)) (settled_of j) stands)
-      (λ m e' h. rw (in_turn job n m (loose i) e') (settled_off job m j stands h _ b))
+  pub track_off : (st : PassState) (u s l : ℕ) → broken_track j ≡ Some l → can_stand job st (track u s) ≡ true → KeepsState job st (Is.Running j) stands →
+      KeepsStep job (pass_line job n st (track u s)) (Err l) stands
+  unfolding pass_in_turn
+  track_off st u s = ends_broken st (track u s) (λ m. passes_on (running (add_track n u s m))) (λ m. refl)
 
-  pub closing_off : (st : PassState) → can_stand job st closes ≡ true → (settled_of j).stage ≡ 3 → KeepsState job st j stands →
-      KeepsStep job (pass_line job n st closes) (settled_of j) stands
-  unfolding is_opening pass_in_turn
-  closing_off st e b k =
-      runs st closes refl e k (λ x. KeepsStep job (pass_line job n x closes) (settled_of j) stands)
-      (λ m e' h. rw (in_turn job n m closes e') (settled_off job m j stands h _ b))
+  pub loose_off : (st : PassState) (i l : ℕ) → broken_track j ≡ Some l → can_stand job st (loose i) ≡ true → KeepsState job st (Is.Running j) stands →
+      KeepsStep job (pass_line job n st (loose i)) (Err l) stands
+  unfolding pass_in_turn
+  loose_off st i = ends_broken st (loose i) (λ m. or_broken n (is_unlined job m.lined i && ltb m.last i) (passes_on (running (add_loose i m)))) (λ m. refl)
+
+  pub closing_off : (st : PassState) (l : ℕ) → broken_track j ≡ Some l → can_stand job st closes ≡ true → KeepsState job st (Is.Running j) stands →
+      KeepsStep job (pass_line job n st closes) (Err l) stands
+  unfolding pass_in_turn
+  closing_off st = ends_broken st closes (λ m. or_broken n (all_of (is_on m.lined) job.nets) (passes_on finished)) (λ m. refl)
 
   -- ---- a track line
 
   -- behind it
-  abbrev under_track : ℕ → ℕ → LinesJudged
-  under_track u s = record { stage = 1; track = record { 0 = u }; line = n; printed = s; sum = 0; lowest = record { 0 = 0 }; last = j.last; breach = 0 }
+  abbrev under_track : ℕ → ℕ → LinesAbove
+  under_track u s = record { track = record { 0 = u }; line = n; printed = s; sum = 0; lowest = record { 0 = 0 }; last = j.last; breach = None }
 
-  track_added : (u s : ℕ) (m : Summary) → m.track < u → KeepsSummary job m j stands → j.breach ≡ 0 → KeepsSummary job (add_track n u s m) (under_track u s) stands
-  unfolding breach_of
+  track_added : (u s : ℕ) (m : Summary) → m.track < u → KeepsSummary job m j stands → j.breach ≡ None → KeepsSummary job (add_track n u s m) (under_track u s) stands
   track_added u s m l h z =
       let old = h.lines_are z in
       record {
-        stage_is = refl;
         track_is = refl;
         line_is = refl;
         printed_is = refl;
@@ -135,63 +138,65 @@ module _ (job : Job) (n : ℕ) (j : LinesJudged) (stands : List ℕ) where
       let t = and_split (eqb m.last 0) (eqb u (suc m.track) && leb u job.board.tracks) e in
       omega (arith, eqb-true u (suc m.track) (and_split (eqb u (suc m.track)) (leb u job.board.tracks) t.1).0)
 
-  pub track_taken : (st : PassState) (u s : ℕ) → can_stand job st (track u s) ≡ true → ((settled_of j).stage ≡ 3 → ⊥) → KeepsState job st j stands →
-      KeepsStep job (pass_line job n st (track u s)) (under_track u s) stands
-  unfolding is_opening pass_in_turn
+  pub track_taken : (st : PassState) (u s : ℕ) → can_stand job st (track u s) ≡ true → broken_track j ≡ None → KeepsState job st (Is.Running j) stands →
+      KeepsStep job (pass_line job n st (track u s)) (Ok (Is.Running (under_track u s))) stands
+  unfolding pass_in_turn
   track_taken st u s e d k =
-      runs st (track u s) refl e k (λ x. KeepsStep job (pass_line job n x (track u s)) (under_track u s) stands)
-      (λ m e' h.
-      let on = settled_on job m j stands h (passes_on (running (add_track n u s m))) d in
-      rw (in_turn job n m (track u s) e', on.0) (track_added u s m (next_above u s m e') h on.1))
+      runs st (track u s) e k (λ x. KeepsStep job (pass_line job n x (track u s)) (Ok (Is.Running (under_track u s))) stands)
+      (λ m t h.
+      rw (in_turn job n m (track u s) t, judged_on job m j stands h (passes_on (running (add_track n u s m))) d)
+      (track_added u s m (next_above u s m t) h (unbroken j d)))
 
   -- ---- the closing line
 
-  -- behind it
-  abbrev behind_all : LinesJudged
-  behind_all = record { stage = 2; track = record { 0 = 0 }; line = 0; printed = 0; sum = 0; lowest = record { 0 = 0 }; last = 0; breach = 0 }
+  -- each of the nets has a line above
+  abbrev pub AllLined : Type 0
+  AllLined = (k : ℕ) → k < length job.nets → get_or stands k 0 ≡ 0 → ⊥
 
-  pub closing_taken : (st : PassState) → can_stand job st closes ≡ true → ((settled_of j).stage ≡ 3 → ⊥) → all_lined stands (length job.nets) ≡ true →
-      KeepsState job st j stands → KeepsStep job (pass_line job n st closes) behind_all stands
-  unfolding is_opening pass_in_turn or_broken
+  pub closing_taken : (st : PassState) → can_stand job st closes ≡ true → broken_track j ≡ None → AllLined → KeepsState job st (Is.Running j) stands →
+      KeepsStep job (pass_line job n st closes) (Ok Is.Finished) stands
+  unfolding pass_in_turn or_broken
   closing_taken st e d t k =
-      runs st closes refl e k (λ x. KeepsStep job (pass_line job n x closes) behind_all stands)
-      (λ m e' h.
-      let on = settled_on job m j stands h (or_broken n (all_of (is_on m.lined) job.nets) (passes_on finished)) d in
-      rw (in_turn job n m closes e', on.0, lined_same (is_on m.lined) job.nets stands (h.lines_are on.1).lined_at, t) (refl, refl))
+      runs st closes e k (λ x. KeepsStep job (pass_line job n x closes) (Ok Is.Finished) stands)
+      (λ m t' h.
+      rw (
+        in_turn job n m closes t',
+        judged_on job m j stands h (or_broken n (all_of (is_on m.lined) job.nets) (passes_on finished)) d,
+        lined_all (is_on m.lined) job.nets stands (h.lines_are (unbroken j d)).lined_at t,
+      )
+      tt)
 
-  pub closing_broken : (st : PassState) → can_stand job st closes ≡ true → ((settled_of j).stage ≡ 3 → ⊥) → all_lined stands (length job.nets) ≡ false →
-      KeepsState job st j stands → KeepsStep job (pass_line job n st closes) (broken_off n) stands
-  unfolding is_opening pass_in_turn or_broken
+  pub closing_broken : (st : PassState) → can_stand job st closes ≡ true → broken_track j ≡ None → (AllLined → ⊥) → KeepsState job st (Is.Running j) stands →
+      KeepsStep job (pass_line job n st closes) (Err n) stands
+  unfolding pass_in_turn or_broken
   closing_broken st e d t k =
-      runs st closes refl e k (λ x. KeepsStep job (pass_line job n x closes) (broken_off n) stands)
-      (λ m e' h.
-      let on = settled_on job m j stands h (or_broken n (all_of (is_on m.lined) job.nets) (passes_on finished)) d in
-      rw (in_turn job n m closes e', on.0, lined_same (is_on m.lined) job.nets stands (h.lines_are on.1).lined_at, t) (refl, refl))
+      runs st closes e k (λ x. KeepsStep job (pass_line job n x closes) (Err n) stands)
+      (λ m t' h.
+      rw (
+        in_turn job n m closes t',
+        judged_on job m j stands h (or_broken n (all_of (is_on m.lined) job.nets) (passes_on finished)) d,
+        lined_not (is_on m.lined) job.nets stands (h.lines_are (unbroken j d)).lined_at t,
+      ))
 
   -- ---- a wire line, where it can stand
 
-  pub wire_taken : (st : PassState) (w : Wire) (o : Option Placement) (i : LinesJudged) (after : List ℕ) → can_stand job st (wire w) ≡ true →
-      KeepsState job st j stands → drawn_by job j.track.0 w ≡ o →
+  pub wire_taken : (st : PassState) (w : Wire) (o : Option Placement) (i : LinesAbove) (after : List ℕ) → can_stand job st (wire w) ≡ true →
+      KeepsState job st (Is.Running j) stands → drawn_by job j.track.0 w ≡ o →
       ((m : Summary) → KeepsSummary job m j stands → KeepsSummary job (add_wire job n w o m) i after) →
-      KeepsStep job (pass_line job n st (wire w)) i after
-  unfolding is_opening pass_in_turn
+      KeepsStep job (pass_line job n st (wire w)) (Ok (Is.Running i)) after
+  unfolding pass_in_turn
   wire_taken st w o i after e k d f =
-      runs st (wire w) refl e k (λ x. KeepsStep job (pass_line job n x (wire w)) i after)
-      (λ m e' h.
+      runs st (wire w) e k (λ x. KeepsStep job (pass_line job n x (wire w)) (Ok (Is.Running i)) after)
+      (λ m t h.
       let drawn : drawn_by job m.track w ≡ o = ap (λ (t : ℕ). drawn_by job t w) h.track_is ∙ d in
-      rw (in_turn job n m (wire w) e', drawn) (f m h))
+      rw (in_turn job n m (wire w) t, drawn) (f m h))
 
   -- ---- a loose line
 
-  module _ (a : AcceptedJob job) (number index : ℕ) (is : index ≡ index_from (is_numbered number) 0 job.nets) where
-    -- the test on values
-    abbrev is_new_loose : Bool
-    is_new_loose = not (eqb index 512) && eqb (get_or stands index 0) 0 && ltb j.last number
-
+  module _ (a : AcceptedJob job) (number : ℕ) where
     -- behind a loose line that passes
-    abbrev behind_loose : LinesJudged
+    abbrev behind_loose : LinesAbove
     behind_loose = record {
-      stage = j.stage;
       track = j.track;
       line = j.line;
       printed = j.printed;
@@ -201,47 +206,71 @@ module _ (job : Job) (n : ℕ) (j : LinesJudged) (stands : List ℕ) where
       breach = j.breach;
     }
 
-    loose_test : (m : Summary) → KeepsSummary job m j stands → j.breach ≡ 0 → (is_unlined job m.lined number && ltb m.last number) ≡ is_new_loose
-    loose_test m h z = rw (unlined_same job a m stands (h.lines_are z) number index is, h.last_is)
+    -- its test fails
+    loose_broken : (st : PassState) → can_stand job st (loose number) ≡ true → broken_track j ≡ None →
+        ((m : Summary) → KeepsSummary job m j stands → NetLines job m stands → (is_unlined job m.lined number && ltb m.last number) ≡ false) →
+        KeepsState job st (Is.Running j) stands → KeepsStep job (pass_line job n st (loose number)) (Err n) stands
+    unfolding pass_in_turn or_broken
+    loose_broken st e d fails k =
+        runs st (loose number) e k (λ x. KeepsStep job (pass_line job n x (loose number)) (Err n) stands)
+        (λ m t h.
+        rw (
+          in_turn job n m (loose number) t,
+          judged_on job m j stands h (or_broken n (is_unlined job m.lined number && ltb m.last number) (passes_on (running (add_loose number m)))) d,
+          fails m h (h.lines_are (unbroken j d)),
+        ))
 
-    pub loose_broken : (st : PassState) → can_stand job st (loose number) ≡ true → ((settled_of j).stage ≡ 3 → ⊥) → is_new_loose ≡ false →
-        KeepsState job st j stands → KeepsStep job (pass_line job n st (loose number)) (broken_off n) stands
-    unfolding is_opening pass_in_turn or_broken
-    loose_broken st e d t k =
-        runs st (loose number) refl e k (λ x. KeepsStep job (pass_line job n x (loose number)) (broken_off n) stands)
-        (λ m e' h.
-        let on = settled_on job m j stands h (or_broken n (is_unlined job m.lined number && ltb m.last number) (passes_on (running (add_loose number m)))) d in
-        rw (in_turn job n m (loose number) e', on.0, loose_test m h on.1, t) (refl, refl))
+    -- no net has the number
+    pub loose_unknown : (st : PassState) → can_stand job st (loose number) ≡ true → broken_track j ≡ None → None ≡ position_numbered number job.nets →
+        KeepsState job st (Is.Running j) stands → KeepsStep job (pass_line job n st (loose number)) (Err n) stands
+    loose_unknown st e d is = loose_broken st e d (λ m h old. rw (unlined_none job a m number is))
 
-    loose_added : (m : Summary) → can_stand job (running m) (loose number) ≡ true → KeepsSummary job m j stands → j.breach ≡ 0 → is_new_loose ≡ true →
-        KeepsSummary job (add_loose number m) behind_loose (set stands index j.track.0)
-    unfolding can_stand is_in_turn ends_track
-    loose_added m e h z t =
-        let first = and_split (not (eqb index 512) && eqb (get_or stands index 0) 0) (ltb j.last number) t in
-        let both = and_split (not (eqb index 512)) (eqb (get_or stands index 0) 0) first.0 in
-        let known : index ≡ 512 → ⊥ = eqb-false index 512 (not-true (eqb index 512) both.0) in
-        let at = index_number job number index is known in
-        let on : m.track ≡ job.board.tracks = eqb-true m.track job.board.tracks e in
-        let begun : 1 ≤ m.track = omega (arith, a.board_range.tracks_range) in
-        record {
-          stage_is = h.stage_is;
-          track_is = h.track_is;
-          line_is = h.line_is;
-          printed_is = h.printed_is;
-          sum_is = h.sum_is;
-          lowest_is = h.lowest_is;
-          last_is = refl;
-          breach_is = h.breach_is;
-          lines_are = λ f.
-              subst (λ (t : ℕ). NetLines job (add_loose number m) (set stands index t)) h.track_is
-              (line_added job a m (add_loose number m) stands index number refl refl refl at.0 at.1 (eqb-true (get_or stands index 0) 0 both.1) begun (h.lines_are z));
-        }
+    module _ (index : ℕ) (is : Some index ≡ position_numbered number job.nets) where
+      -- its net has a line above
+      pub loose_lined : (st : PassState) → can_stand job st (loose number) ≡ true → broken_track j ≡ None → (get_or stands index 0 ≡ 0 → ⊥) →
+          KeepsState job st (Is.Running j) stands → KeepsStep job (pass_line job n st (loose number)) (Err n) stands
+      loose_lined st e d lined =
+          loose_broken st e d (λ m h old. rw (unlined_some job a m stands old number index is, ne_eqb (get_or stands index 0) 0 lined))
 
-    pub loose_taken : (st : PassState) → can_stand job st (loose number) ≡ true → ((settled_of j).stage ≡ 3 → ⊥) → is_new_loose ≡ true →
-        KeepsState job st j stands → KeepsStep job (pass_line job n st (loose number)) behind_loose (set stands index j.track.0)
-    unfolding is_opening pass_in_turn or_broken
-    loose_taken st e d t k =
-        runs st (loose number) refl e k (λ x. KeepsStep job (pass_line job n x (loose number)) behind_loose (set stands index j.track.0))
-        (λ m e' h.
-        let on = settled_on job m j stands h (or_broken n (is_unlined job m.lined number && ltb m.last number) (passes_on (running (add_loose number m)))) d in
-        rw (in_turn job n m (loose number) e', on.0, loose_test m h on.1, t) (loose_added m e' h on.1 t))
+      -- it is not above the last
+      pub loose_late : (st : PassState) → can_stand job st (loose number) ≡ true → broken_track j ≡ None → number ≤ j.last →
+          KeepsState job st (Is.Running j) stands → KeepsStep job (pass_line job n st (loose number)) (Err n) stands
+      loose_late st e d late = loose_broken st e d (λ m h old. rw (h.last_is, le-ltb j.last number late) (and-false (is_unlined job m.lined number)))
+
+      loose_added : (m : Summary) → can_stand job (running m) (loose number) ≡ true → KeepsSummary job m j stands → j.breach ≡ None → get_or stands index 0 ≡ 0 →
+          KeepsSummary job (add_loose number m) behind_loose (set stands index j.track.0)
+      unfolding can_stand is_in_turn ends_track
+      loose_added m e h z new =
+          let at = index_number job.nets number index is in
+          let on : m.track ≡ job.board.tracks = eqb-true m.track job.board.tracks e in
+          let begun : 1 ≤ m.track = omega (arith, a.board_range.tracks_range) in
+          record {
+            track_is = h.track_is;
+            line_is = h.line_is;
+            printed_is = h.printed_is;
+            sum_is = h.sum_is;
+            lowest_is = h.lowest_is;
+            last_is = refl;
+            breach_is = h.breach_is;
+            lines_are = λ f.
+                subst (λ (t : ℕ). NetLines job (add_loose number m) (set stands index t)) h.track_is
+                (line_added job a m (add_loose number m) stands index number refl refl refl at.0 at.1 new begun (h.lines_are z));
+          }
+
+      pub loose_taken : (st : PassState) → can_stand job st (loose number) ≡ true → broken_track j ≡ None → get_or stands index 0 ≡ 0 → j.last < number →
+          KeepsState job st (Is.Running j) stands →
+          KeepsStep job (pass_line job n st (loose number)) (Ok (Is.Running behind_loose)) (set stands index j.track.0)
+      unfolding pass_in_turn or_broken
+      loose_taken st e d new above k =
+          runs st (loose number) e k (λ x. KeepsStep job (pass_line job n x (loose number)) (Ok (Is.Running behind_loose)) (set stands index j.track.0))
+          (λ m t h.
+          let z = unbroken j d in
+          rw (
+            in_turn job n m (loose number) t,
+            judged_on job m j stands h (or_broken n (is_unlined job m.lined number && ltb m.last number) (passes_on (running (add_loose number m)))) d,
+            unlined_some job a m stands (h.lines_are z) number index is,
+            eq-eqb (get_or stands index 0) 0 new,
+            h.last_is,
+            lt-ltb j.last number above,
+          )
+          (loose_added m t h z new))

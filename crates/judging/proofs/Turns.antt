@@ -1,55 +1,49 @@
 -- Where a pass stands by value: which line can stand there, where the judging closes, and where the wires of a track end. Assumes nothing.
-use Prim.Native.Nat.{ℕ, zero, suc, ◌+◌}
-use mathlib.Core.Path.{◌≡◌, refl, sym, ap, ◌∙◌}
-use mathlib.Core.Bool.{Bool, false}
-use mathlib.Core.Option.{none, some}
+use Prim.Native.Nat.{ℕ, suc, ◌+◌, ◌≤◌}
+use mathlib.Core.Path.{◌≡◌, refl, sym, ◌∙◌}
+use mathlib.Core.Bool.{Bool, true, false, ◌&&◌, and-false, and-true}
+use Rattle.std.specs.Prelude.{Option, None, Some, Err, unwrap_or}
 use mathlib.Core.List.{List}
 use native.Mathlib.Omega.{arith}
-use lib.Dec.{eqb}
-use borrow.Author.Tests.{eqb-true, eqb-false}
-use Rattle.lists.proofs.Cases.{by_test}
+use lib.Dec.{eqb, leb, ltb}
+use borrow.Author.Tests.{eqb-true, leb-true}
+use Rattle.lists.proofs.Cases.{by_test, and_split}
 use Rattle.board.specs.Job.{Job}
 use Rattle.layout.specs.Tree.{Wire, Line, track, wire, loose, closes}
 use Rattle.drc.specs.Judge.{ends_track, is_in_turn, is_opening, broken_at}
 use Rattle.drc.specs.Pass.{Summary, PassState, unbegun, running, finished, PassStep, decides, closed_at, unless_breach, judged_track, or_broken, pass_line, pass_ill_formed}
+use Rattle.judging.specs.declared.LinesAbove.{LinesAbove}
 use Rattle.judging.specs.declared.LinesJudged.{LinesJudged}
-use Rattle.judging.specs.Judged.{breach_of, KeepsSummary, KeepsState, KeepsStep}
-use Rattle.judging.specs.Values.{closed_of, settled_of, is_track_turn, is_wire_turn, is_end_turn}
-use Rattle.judging.proofs.ValueTests.{closed_here, closed_above, settled_sum, settled_wire, settled_kept}
+use Rattle.judging.specs.declared.LinesJudged.TheVariants as Is
+use Rattle.judging.specs.Judged.{KeepsSummary, KeepsState, KeepsStep}
+use Rattle.judging.specs.Values.{closed_of, broken_track, is_track_turn, is_wire_turn}
 
--- ---- the line of a breach
-
-pub breach_none : (k : ℕ) → k ≡ 0 → breach_of k ≡ none
-unfolding breach_of
-breach_none k e = rw e
-
-pub breach_some : (k : ℕ) → (k ≡ 0 → ⊥) → breach_of k ≡ some k
-unfolding breach_of
-breach_some zero d = absurd (d refl)
-breach_some (suc k) d = refl
+-- the next track in turn is one of the board
+next_track : (b : Bool) (t u k : ℕ) → (b && ltb t k && eqb u (t + 1)) ≡ (b && (eqb u (suc t) && leb u k))
+next_track b t u k =
+    let e : t + 1 ≡ suc t = omega arith in
+    rw e
+    (by_test (eqb u (suc t))
+    (λ f.
+    let s : u ≡ suc t = eqb-true u (suc t) f in
+    rw (f, and-true (b && ltb t k), s))
+    (λ f. rw (f, and-false (b && ltb t k)) (sym (and-false b))))
 
 -- ---- the judging closes
 
-pub closed_stage : (j : LinesJudged) (n : ℕ) → (closed_of j n).stage ≡ 3
-closed_stage j n = by_test (eqb j.breach 0) (λ t. rw (closed_here j n (eqb-true j.breach 0 t))) (λ t. rw (closed_above j n (eqb-false j.breach 0 t)))
-
-closed_line : (j : LinesJudged) (n : ℕ) → j.breach ≡ 0 → broken_at n ≡ broken_at (closed_of j n).breach
-closed_line j n e = rw (closed_here j n e)
-
-closed_breach : (j : LinesJudged) (n : ℕ) → closed_at (breach_of j.breach) n ≡ broken_at (closed_of j n).breach
+closed_same : (o : Option ℕ) (n : ℕ) → closed_at o n ≡ broken_at (unwrap_or o n)
 unfolding closed_at
-closed_breach j n =
-    by_test (eqb j.breach 0)
-    (λ t. let e = eqb-true j.breach 0 t in rw (breach_none j.breach e, closed_here j n e))
-    (λ t. let d = eqb-false j.breach 0 t in rw (breach_some j.breach d, closed_above j n d))
+closed_same None n = refl
+closed_same (Some l) n = refl
 
 module _ (job : Job) where
   -- a line not of the form
-  pub closes_ill_formed : (n : ℕ) (st : PassState) (j : LinesJudged) (stands : List ℕ) → KeepsState job st j stands → pass_ill_formed n st ≡ broken_at (closed_of j n).breach
+  pub closes_ill_formed : (n : ℕ) (st : PassState) (j : LinesJudged) (stands : List ℕ) → KeepsState job st j stands → pass_ill_formed n st ≡ broken_at (closed_of j n)
   unfolding pass_ill_formed
-  closes_ill_formed n unbegun j stands k = closed_line j n k.1
-  closes_ill_formed n (running m) j stands k = rw k.breach_is (closed_breach j n)
-  closes_ill_formed n finished j stands k = closed_line j n k.1
+  closes_ill_formed n unbegun Is.Unbegun stands k = refl
+  closes_ill_formed n (running m) (Is.Running j) stands k = rw k.breach_is (closed_same j.breach n)
+  closes_ill_formed n finished Is.Finished stands k = refl
+  closes_ill_formed n st j stands k = absurd k
 
   -- the line can stand where the pass stands
   unfoldable pub can_stand : PassState → Line → Bool
@@ -65,66 +59,72 @@ module _ (job : Job) where
   closed_verdict n finished x e = refl
 
   pub closes_off : (n : ℕ) (st : PassState) (x : Line) (j : LinesJudged) (stands : List ℕ) → KeepsState job st j stands → can_stand st x ≡ false →
-      KeepsStep job (pass_line job n st x) (closed_of j n) stands
-  closes_off n st x j stands k e = rw (closed_verdict n st x e) (closed_stage j n, closes_ill_formed n st j stands k)
+      KeepsStep job (pass_line job n st x) (Err (closed_of j n)) stands
+  closes_off n st x j stands k e = rw (closed_verdict n st x e) (closes_ill_formed n st j stands k)
+
+  -- only the opening line can stand where `(layout` does not stand above, and none behind `)`
+  pub idle_off : (n : ℕ) (st : PassState) (x : Line) (j : LinesJudged) (stands : List ℕ) → is_opening x ≡ false → ((i : LinesAbove) → j ≡ Is.Running i → ⊥) →
+      KeepsState job st j stands → KeepsStep job (pass_line job n st x) (Err n) stands
+  unfolding can_stand
+  idle_off n unbegun x Is.Unbegun stands o d k = closes_off n unbegun x Is.Unbegun stands k o
+  idle_off n finished x Is.Finished stands o d k = closes_off n finished x Is.Finished stands k refl
+  idle_off n (running m) x (Is.Running j) stands o d k = absurd (d j refl)
+  idle_off n st x j stands o d k = absurd k
 
   -- ---- which line can stand there, on values
 
-  module _ (k : ℕ) (is : job.board.tracks ≡ k) (j : LinesJudged) (stands : List ℕ) where
-    pub track_place : (st : PassState) (u s : ℕ) → KeepsState job st j stands → is_track_turn k j u ≡ can_stand st (track u s)
-    unfolding can_stand is_opening is_in_turn ends_track
-    track_place unbegun u s h = rw h.0
-    track_place (running m) u s h =
-        let e : j.track.0 + 1 ≡ suc j.track.0 = omega arith in
-        rw (h.stage_is, h.last_is, h.track_is, is, e)
-    track_place finished u s h = rw h.0
+  module _ (k : ℕ) (is : job.board.tracks ≡ k) (j : LinesAbove) (stands : List ℕ) where
+    pub track_place : (st : PassState) (u s : ℕ) → KeepsState job st (Is.Running j) stands → is_track_turn k j u ≡ can_stand st (track u s)
+    unfolding can_stand is_in_turn ends_track
+    track_place unbegun u s h = absurd h
+    track_place (running m) u s h = rw (h.last_is, h.track_is, is) (next_track (eqb j.last 0) j.track.0 u k)
+    track_place finished u s h = absurd h
 
-    pub wire_place : (st : PassState) (w : Wire) → KeepsState job st j stands → is_wire_turn k j ≡ can_stand st (wire w)
-    unfolding can_stand is_opening is_in_turn
-    wire_place unbegun w h = rw h.0
-    wire_place (running m) w h = rw (h.stage_is, h.last_is, h.track_is, is)
-    wire_place finished w h = rw h.0
+    pub wire_place : (st : PassState) (w : Wire) → KeepsState job st (Is.Running j) stands → is_wire_turn k j ≡ can_stand st (wire w)
+    unfolding can_stand is_in_turn
+    wire_place unbegun w h = absurd h
+    wire_place (running m) w h = rw (h.last_is, h.track_is, is)
+    wire_place finished w h = absurd h
 
-    pub loose_place : (st : PassState) (i : ℕ) → KeepsState job st j stands → is_end_turn k j ≡ can_stand st (loose i)
-    unfolding can_stand is_opening is_in_turn ends_track
-    loose_place unbegun i h = rw h.0
-    loose_place (running m) i h = rw (h.stage_is, h.track_is, is)
-    loose_place finished i h = rw h.0
+    pub loose_place : (st : PassState) (i : ℕ) → KeepsState job st (Is.Running j) stands → eqb j.track.0 k ≡ can_stand st (loose i)
+    unfolding can_stand is_in_turn ends_track
+    loose_place unbegun i h = absurd h
+    loose_place (running m) i h = rw (h.track_is, is)
+    loose_place finished i h = absurd h
 
-    pub closing_place : (st : PassState) → KeepsState job st j stands → is_end_turn k j ≡ can_stand st closes
-    unfolding can_stand is_opening is_in_turn ends_track
-    closing_place unbegun h = rw h.0
-    closing_place (running m) h = rw (h.stage_is, h.track_is, is)
-    closing_place finished h = rw h.0
+    pub closing_place : (st : PassState) → KeepsState job st (Is.Running j) stands → eqb j.track.0 k ≡ can_stand st closes
+    unfolding can_stand is_in_turn ends_track
+    closing_place unbegun h = absurd h
+    closing_place (running m) h = rw (h.track_is, is)
+    closing_place finished h = absurd h
 
   -- ---- the wires of a track end
 
-  module _ (m : Summary) (j : LinesJudged) (stands : List ℕ) (h : KeepsSummary job m j stands) (x : PassStep) where
-    -- by value: broken, or as it was
-    pub settles : {P : Type 0} → (KeepsStep job (judged_track m x) (settled_of j) stands → (settled_of j).stage ≡ 3 → P) →
-        (judged_track m x ≡ x → j.breach ≡ 0 → settled_of j ≡ j → P) → P
+  module _ (m : Summary) (j : LinesAbove) (stands : List ℕ) (h : KeepsSummary job m j stands) (x : PassStep) where
+    judged_as : judged_track m x ≡ unless_breach (broken_track j) x
     unfolding judged_track unless_breach
-    settles broke kept =
-        by_test (eqb j.sum j.printed)
-        (λ t.
-        let e = eqb-true j.sum j.printed t in
-        by_test (eqb j.breach 0)
-        (λ f.
-        let z = eqb-true j.breach 0 f in
-        kept (rw (h.sum_is, h.printed_is, t, h.breach_is, breach_none j.breach z)) z (settled_kept j e z))
-        (λ f.
-        let d = eqb-false j.breach 0 f in
-        broke (rw (h.sum_is, h.printed_is, t, h.breach_is, breach_some j.breach d, settled_wire j e d) (refl, refl)) (rw (settled_wire j e d))))
-        (λ t.
-        let d = eqb-false j.sum j.printed t in
-        broke (rw (h.sum_is, h.printed_is, t, h.line_is, settled_sum j d) (refl, refl)) (rw (settled_sum j d)))
+    judged_as = rw (h.sum_is, h.printed_is, h.line_is, h.breach_is) (by_test (eqb j.sum j.printed) (λ t. rw t) (λ t. rw t))
 
     -- the verdict stands
-    pub settled_off : (settled_of j).stage ≡ 3 → KeepsStep job (judged_track m x) (settled_of j) stands
-    settled_off e =
-        settles (λ k f. k)
-        (λ k z s. let o : ◌≡◌ {A = ℕ} 3 1 = sym e ∙ ap (λ (i : LinesJudged). i.stage) s ∙ h.stage_is in absurd (omega arith))
+    pub judged_off : (l : ℕ) → broken_track j ≡ Some l → judged_track m x ≡ decides (broken_at l)
+    unfolding unless_breach
+    judged_off l e = judged_as ∙ rw e
 
     -- the pass goes on
-    pub settled_on : ((settled_of j).stage ≡ 3 → ⊥) → (judged_track m x ≡ x) × (j.breach ≡ 0)
-    settled_on d = settles (λ k f. absurd (d f)) (λ k z s. (k, z))
+    pub judged_on : broken_track j ≡ None → judged_track m x ≡ x
+    unfolding unless_breach
+    judged_on e = judged_as ∙ rw e
+
+-- no wire of a track that is not broken is
+pub unbroken : (j : LinesAbove) → broken_track j ≡ None → j.breach ≡ None
+unbroken j e =
+    by_test (eqb j.sum j.printed)
+    (λ t. rw t at e)
+    (λ t. let f : Some j.line ≡ None = rw t at e in let z : ◌≡◌ {A = ℕ} 0 1 = cc in absurd (omega arith))
+
+-- the track of a wire that can stand is one of the board
+pub wire_range : (k : ℕ) (j : LinesAbove) → is_wire_turn k j ≡ true → (1 ≤ j.track.0) × (j.track.0 ≤ k)
+wire_range k j t =
+    let a = and_split (eqb j.last 0 && leb 1 j.track.0) (leb j.track.0 k) t in
+    let b = and_split (eqb j.last 0) (leb 1 j.track.0) a.0 in
+    (leb-true 1 j.track.0 b.1, leb-true j.track.0 k a.1)

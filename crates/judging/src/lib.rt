@@ -4,257 +4,238 @@
 pub mod nets;
 pub mod wires;
 
-ghost use Rattle.std.specs.Prelude.{◌≡◌, List, ℕ, ◌-◌, ◌≤◌, length};
+ghost use Rattle.std.specs.Prelude.{◌≡◌, ◌≢◌, ◌↔◌, IsTrue, slice_index, List, ℕ, ◌≤◌, ◌<◌, eqb, length, unwrap_or, IfOk, IfSome, MatchResult};
 ghost use Rattle.board.specs.Job.{Job};
 ghost use Rattle.board.specs.Accepted.{AcceptedJob};
-ghost use Rattle.candidates.specs.Placed.{index_from};
 ghost use Rattle.layout.specs.Tree as Tree;
 ghost use Rattle.layout.specs.Tree.{opens, loose, closes};
 ghost use Rattle.drc.specs.Pass.{PassState, pass_line};
 ghost use Rattle.judging.specs.Judged.{KeepsState, KeepsStep, JudgedInRange, LineInRange};
-ghost use Rattle.judging.specs.Values.{is_numbered, all_lined, not_begun, broken_off, closed_of, settled_of, is_track_turn, is_wire_turn, is_end_turn};
+ghost use Rattle.judging.specs.Values.{position_numbered, track_of, closed_of, broken_track, is_track_turn, is_wire_turn};
 
-use board::{Net, Row, Track};
+use board::{Net, Row, Shape, Track};
 
-// The stages: how far the lines above go.
-
-// Nothing stands above.
-const UNBEGUN: usize = 0;
-
-// `(layout` stands above, and `)` does not.
-const RUNNING: usize = 1;
-
-// `)` stands above.
-pub const FINISHED: usize = 2;
-
-// The verdict stands: the layout is broken.
-pub const DECIDED: usize = 3;
-
-// What is kept of the lines above: their stage; the last track line, its track, its line, the sum that it prints and the sum of its wires
-// so far; the lowest row of the last wire drawn on the track; the number of the last loose line; and the line of the first broken wire of the
-// track, or, where the verdict stands, the broken line. 0 where there is none.
+// What is kept of the lines above, where `(layout` stands above and `)` does not: the last track line, its track, its line, the sum that it
+// prints and the sum of its wires so far; the lowest row of the last wire drawn on the track; the number of the last loose line; and the line
+// of the first broken wire of the track. The track, the row and the number are 0 where there is none, which is below each that can follow.
 #[derive(Clone, Copy)]
-pub struct LinesJudged {
-    pub stage: usize,
+pub struct LinesAbove {
     pub track: Track,
     pub line: usize,
     pub printed: usize,
     pub sum: usize,
     pub lowest: Row,
     pub last: usize,
-    pub breach: usize,
+    pub breach: Option<usize>,
 }
 
-// The net of a line: its index in the job, and the index of the net that precedes it, 512 if there is none. Index 512 stands for no net; what
-// is beside it then says nothing.
+// How far the lines above go, and what is kept of them.
+#[derive(Clone, Copy)]
+pub enum LinesJudged {
+    // nothing stands above
+    Unbegun,
+    // `(layout` stands above, and `)` does not
+    Running(LinesAbove),
+    // `)` stands above
+    Finished,
+}
+
+// The net of a line: its index in the job, and the index of the net that precedes it.
 #[derive(Clone, Copy)]
 pub struct NetFound {
     pub index: usize,
     pub net: Net,
-    pub before: usize,
+    pub before: Option<usize>,
 }
 
-// Whether each of the `count` nets has a line above.
+// A wire line that draws its net: the net, and the shape and the top row in which it is drawn.
+#[derive(Clone, Copy)]
+pub struct WireDrawn {
+    pub found: NetFound,
+    pub top: Row,
+    pub shape: Shape,
+}
+
+// Whether each of the first `count` nets has a line above.
 pub fn all_lined(stands: &[usize; 512], count: usize) -> bool
     requires { count ≤ 512 }
-    ensures { result ≡ all_lined stands.now count }
+    ensures { IsTrue result ↔ ((k : ℕ) → k < count → slice_index stands.now k ≢ 0) }
 {
-    for i in 0..count {
-        if stands[i] == 0 {
-            return false;
+    stands[..count].iter().all(|track| *track != 0)
+}
+
+impl LinesAbove {
+    // The line at which the layout is broken where the judging closes at a line that cannot stand there: that of the first broken wire of
+    // the track above, or that line.
+    pub fn closed(self, line: usize) -> usize
+        ensures { result ≡ unwrap_or self.breach line }
+    {
+        self.breach.unwrap_or(line)
+    }
+
+    // The wires of a track end: its sum is judged, at its track line, then its wires. The error is the line at which it is broken.
+    fn settled(self) -> Result<(), usize>
+        ensures { MatchResult result (λ _. broken_track self ≡ None) (λ l. broken_track self ≡ Some l) }
+    {
+        if self.sum != self.printed {
+            return Err(self.line);
+        }
+        match self.breach {
+            Some(line) => Err(line),
+            None => Ok(()),
         }
     }
-    true
-}
 
-// Nothing stands above.
-pub fn unbegun() -> LinesJudged
-    ensures { result ≡ not_begun }
-{
-    LinesJudged {
-        stage: UNBEGUN,
-        track: Track(0),
-        line: 0,
-        printed: 0,
-        sum: 0,
-        lowest: Row(0),
-        last: 0,
-        breach: 0,
+    // Whether the line of a track comes in turn, on a board with so many tracks.
+    fn is_track_turn(self, tracks: usize, track: Track) -> bool
+        ensures { result ≡ is_track_turn tracks self track.0 }
+    {
+        self.last == 0 && self.track.0 < tracks && track.0 == self.track.0 + 1
     }
-}
 
-// The verdict stands: the layout is broken at a line.
-fn broken(line: usize) -> LinesJudged
-    ensures { result ≡ broken_off line }
-{
-    LinesJudged {
-        stage: DECIDED,
-        track: Track(0),
-        line: 0,
-        printed: 0,
-        sum: 0,
-        lowest: Row(0),
-        last: 0,
-        breach: line,
+    // Whether a wire can stand behind the lines above, on a board with so many tracks.
+    pub fn is_wire_turn(self, tracks: usize) -> bool
+        ensures { result ≡ is_wire_turn tracks self }
+    {
+        self.last == 0 && 1 <= self.track.0 && self.track.0 <= tracks
+    }
+
+    // Whether a loose line or the closing line can stand behind the lines above, on a board with so many tracks.
+    fn is_end_turn(self, tracks: usize) -> bool
+        ensures { result ≡ eqb self.track.0 tracks }
+    {
+        self.track.0 == tracks
     }
 }
 
-// The judging closes at a line that is not of the form or cannot stand there: the layout is broken at the first broken wire of the track
-// above, or at that line.
-pub fn closed(m: LinesJudged, line: usize) -> LinesJudged
-    ensures { result ≡ closed_of m line }
-{
-    if m.breach == 0 {
-        return broken(line);
+// What a line leads to: what is kept behind it or, as an error, the line at which the layout is broken.
+impl LinesJudged {
+    // The track of the last track line; track 0, which has no blocks, where no track is judged.
+    pub fn track(self) -> Track
+        ensures { result ≡ track_of self }
+    {
+        match self {
+            LinesJudged::Running(above) => above.track,
+            LinesJudged::Unbegun | LinesJudged::Finished => Track(0),
+        }
     }
-    broken(m.breach)
-}
 
-// The wires of a track end: its sum is judged, at its track line, then its wires. What was kept is kept if none is broken.
-fn settled(m: LinesJudged) -> LinesJudged
-    ensures { result ≡ settled_of m }
-{
-    if m.sum != m.printed {
-        return broken(m.line);
+    // The line at which the layout is broken where the judging closes at a line that is not of the form or cannot stand there.
+    pub fn closed(self, line: usize) -> usize
+        ensures { result ≡ closed_of self line }
+    {
+        match self {
+            LinesJudged::Running(above) => above.closed(line),
+            LinesJudged::Unbegun | LinesJudged::Finished => line,
+        }
     }
-    if m.breach != 0 {
-        return broken(m.breach);
-    }
-    m
-}
 
-// Whether the line of a track comes in turn, on a board with so many tracks.
-fn is_track_turn(tracks: usize, m: LinesJudged, track: Track) -> bool
-    requires { m.track.0 ≤ 128 }
-    ensures { result ≡ is_track_turn tracks m track.0 }
-{
-    (m.stage == RUNNING) & ((m.last == 0) & ((track.0 == m.track.0 + 1) & (track.0 <= tracks)))
-}
+    // What the opening line leads to.
+    pub fn take_opening(self, line: usize) -> Result<LinesJudged, usize>
+        ensures keeps_step { (job : Job) (st : PassState) (stands : List ℕ) → KeepsState job st self stands → KeepsStep job (pass_line job line st opens) result stands }
+        ensures judged_in_range { IfOk result (JudgedInRange line) }
+    {
+        match self {
+            LinesJudged::Unbegun => Ok(LinesJudged::Running(LinesAbove {
+                track: Track(0),
+                line: 0,
+                printed: 0,
+                sum: 0,
+                lowest: Row(0),
+                last: 0,
+                breach: None,
+            })),
+            LinesJudged::Running(above) => Err(above.closed(line)),
+            LinesJudged::Finished => Err(line),
+        }
+    }
 
-// Whether a wire can stand behind the lines above.
-pub fn is_wire_turn(tracks: usize, m: LinesJudged) -> bool
-    ensures { result ≡ is_wire_turn tracks m }
-{
-    (m.stage == RUNNING) & ((m.last == 0) & (1 <= m.track.0) & (m.track.0 <= tracks))
-}
+    // What a track line leads to, on a board with so many tracks.
+    pub fn take_track(
+        self,
+        tracks: usize,
+        line: usize,
+        track: Track,
+        printed: usize,
+    ) -> Result<LinesJudged, usize>
+        requires { tracks ≤ 128 }
+        ensures keeps_step { (job : Job) (st : PassState) (stands : List ℕ) → job.board.tracks ≡ tracks → KeepsState job st self stands → KeepsStep job (pass_line job line st (Tree.track track.0 printed)) result stands }
+        ensures judged_in_range { IfOk result (JudgedInRange line) }
+    {
+        let LinesJudged::Running(above) = self else {
+            return Err(line);
+        };
+        if !above.is_track_turn(tracks, track) {
+            return Err(above.closed(line));
+        }
+        above.settled()?;
+        Ok(LinesJudged::Running(LinesAbove {
+            track,
+            line,
+            printed,
+            sum: 0,
+            lowest: Row(0),
+            last: above.last,
+            breach: None,
+        }))
+    }
 
-// Whether a loose line or the closing line can stand behind the lines above.
-fn is_end_turn(tracks: usize, m: LinesJudged) -> bool
-    ensures { result ≡ is_end_turn tracks m }
-{
-    (m.stage == RUNNING) & (m.track.0 == tracks)
-}
+    // What a loose line leads to, where `index` is the index of the net with its number, if a net has it.
+    pub fn take_loose(
+        self,
+        tracks: usize,
+        line: usize,
+        number: usize,
+        index: Option<usize>,
+        stands: &mut [usize; 512],
+    ) -> Result<LinesJudged, usize>
+        requires line_in_range { LineInRange line self }
+        requires index_range { IfSome index (λ i. i < 512) }
+        ensures keeps_step { (job : Job) (st : PassState) → AcceptedJob job → job.board.tracks ≡ tracks → index ≡ position_numbered number job.nets → KeepsState job st self stands.old → KeepsStep job (pass_line job line st (loose number)) result stands.new }
+        ensures judged_in_range { IfOk result (JudgedInRange line) }
+    {
+        let LinesJudged::Running(above) = self else {
+            return Err(line);
+        };
+        if !above.is_end_turn(tracks) {
+            return Err(above.closed(line));
+        }
+        above.settled()?;
+        let Some(index) = index else {
+            return Err(line);
+        };
+        if stands[index] != 0 || number <= above.last {
+            return Err(line);
+        }
+        stands[index] = above.track.0;
+        Ok(LinesJudged::Running(LinesAbove {
+            last: number,
+            ..above
+        }))
+    }
 
-// What the opening line leads to.
-pub fn take_opening(m: LinesJudged, line: usize) -> LinesJudged
-    ensures keeps_step { (job : Job) (st : PassState) (stands : List ℕ) → KeepsState job st m stands → KeepsStep job (pass_line job line st opens) result stands }
-    ensures judged_in_range { JudgedInRange line result }
-{
-    if m.stage != UNBEGUN {
-        return closed(m, line);
-    }
-    let nothing = unbegun();
-    LinesJudged {
-        stage: RUNNING,
-        ..nothing
-    }
-}
-
-// What a track line leads to, on a board with so many tracks.
-pub fn take_track(
-    tracks: usize,
-    m: LinesJudged,
-    line: usize,
-    track: Track,
-    printed: usize,
-) -> LinesJudged
-    requires line_in_range { LineInRange line }
-    requires judged_in_range { JudgedInRange (line - 1) m }
-    requires tracks_bound { tracks ≤ 128 }
-    ensures keeps_step { (job : Job) (st : PassState) (stands : List ℕ) → job.board.tracks ≡ tracks → KeepsState job st m stands → KeepsStep job (pass_line job line st (Tree.track track.0 printed)) result stands }
-    ensures judged_in_range_2 { JudgedInRange line result }
-{
-    if !is_track_turn(tracks, m, track) {
-        return closed(m, line);
-    }
-    let above = settled(m);
-    if above.stage == DECIDED {
-        return above;
-    }
-    LinesJudged {
-        stage: RUNNING,
-        track,
-        line,
-        printed,
-        sum: 0,
-        lowest: Row(0),
-        last: m.last,
-        breach: 0,
-    }
-}
-
-// What a loose line leads to, where `index` is the index of the net with its number, 512 if no net has it.
-pub fn take_loose(
-    tracks: usize,
-    m: LinesJudged,
-    line: usize,
-    number: usize,
-    index: usize,
-    stands: &mut [usize; 512],
-) -> LinesJudged
-    requires line_in_range { LineInRange line }
-    requires judged_in_range { JudgedInRange (line - 1) m }
-    requires le_tracks { (1 ≤ tracks) × (index ≤ 512) }
-    ensures keeps_step { (job : Job) (st : PassState) → AcceptedJob job → job.board.tracks ≡ tracks → index ≡ index_from (is_numbered number) 0 job.nets → KeepsState job st m stands.old → KeepsStep job (pass_line job line st (loose number)) result stands.new }
-    ensures judged_in_range_2 { JudgedInRange line result }
-{
-    if !is_end_turn(tracks, m) {
-        return closed(m, line);
-    }
-    let above = settled(m);
-    if above.stage == DECIDED {
-        return above;
-    }
-    if index == 512 {
-        return broken(line);
-    }
-    if stands[index] != 0 {
-        return broken(line);
-    }
-    if number <= m.last {
-        return broken(line);
-    }
-    stands[index] = m.track.0;
-    LinesJudged { last: number, ..m }
-}
-
-// What the closing line leads to, where the job has `count` nets.
-pub fn take_closing(
-    tracks: usize,
-    m: LinesJudged,
-    line: usize,
-    stands: &[usize; 512],
-    count: usize,
-) -> LinesJudged
-    requires line_in_range { LineInRange line }
-    requires judged_in_range { JudgedInRange (line - 1) m }
-    requires count_bound { count ≤ 512 }
-    ensures keeps_step { (job : Job) (st : PassState) → AcceptedJob job → job.board.tracks ≡ tracks → length job.nets ≡ count → KeepsState job st m stands.now → KeepsStep job (pass_line job line st closes) result stands.now }
-    ensures judged_in_range_2 { JudgedInRange line result }
-{
-    if !is_end_turn(tracks, m) {
-        return closed(m, line);
-    }
-    let above = settled(m);
-    if above.stage == DECIDED {
-        return above;
-    }
-    if !all_lined(stands, count) {
-        return broken(line);
-    }
-    let nothing = unbegun();
-    LinesJudged {
-        stage: FINISHED,
-        ..nothing
+    // What the closing line leads to, where the job has `count` nets.
+    pub fn take_closing(
+        self,
+        tracks: usize,
+        line: usize,
+        stands: &[usize; 512],
+        count: usize,
+    ) -> Result<LinesJudged, usize>
+        requires { count ≤ 512 }
+        ensures keeps_step { (job : Job) (st : PassState) → AcceptedJob job → job.board.tracks ≡ tracks → length job.nets ≡ count → KeepsState job st self stands.now → KeepsStep job (pass_line job line st closes) result stands.now }
+        ensures judged_in_range { IfOk result (JudgedInRange line) }
+    {
+        let LinesJudged::Running(above) = self else {
+            return Err(line);
+        };
+        if !above.is_end_turn(tracks) {
+            return Err(above.closed(line));
+        }
+        above.settled()?;
+        if !all_lined(stands, count) {
+            return Err(line);
+        }
+        Ok(LinesJudged::Finished)
     }
 }

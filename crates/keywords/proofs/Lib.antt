@@ -1,3 +1,3 @@
--- The laws of the words and of their tables.
+-- The laws of the tables, and of looking for a word in them.
 pub mod Tables
 pub mod Words

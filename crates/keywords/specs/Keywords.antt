@@ -1,5 +1,5 @@
 -- The words of the two formats by their place in their table. Document 01, "Text of a job": five words open a form.
-use Rattle.std.specs.Prelude.{cond, List, [], ◌∷◌, ℕ, suc, get_or}
+use Rattle.std.specs.Prelude.{cond, List, [], ◌∷◌, ℕ, suc, get_or, Option, None, Some}
 use Rattle.text.specs.Bytes.{same}
 use Rattle.keywords.specs.declared.Vocabulary.{Vocabulary}
 use Rattle.keywords.specs.declared.Vocabulary.TheVariants.{Job, Layout}
@@ -49,11 +49,11 @@ words Layout = layout_word ∷ track_word ∷ wire_word ∷ loose_word ∷ []
 unfoldable pub word_of : Vocabulary → ℕ → List ℕ
 word_of v i = get_or (words v) i []
 
--- the place of the first of these words that is s, where the first of them has place i; or the place after the last
-unfoldable pub find_from : ℕ → List (List ℕ) → List ℕ → ℕ
-find_from i [] s = i
-find_from i (w ∷ ws) s = let more = find_from (suc i) ws s in cond (same s w) i more
+-- the place of the first of these words that is s, where the first of them has place i
+unfoldable pub find_from : ℕ → List (List ℕ) → List ℕ → Option ℕ
+find_from i [] s = None
+find_from i (w ∷ ws) s = let more = find_from (suc i) ws s in cond (same s w) (Some i) more
 
--- the place of the word s in its table, or how many words the table has
-unfoldable pub find_word : Vocabulary → List ℕ → ℕ
+-- the place of the word s in its table, where it is one of the words
+unfoldable pub find_word : Vocabulary → List ℕ → Option ℕ
 find_word v s = find_from 0 (words v) s

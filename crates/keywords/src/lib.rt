@@ -1,7 +1,7 @@
 // The words of the two formats, held in tables of padded bytes and looked up by index when reading and when writing.
 #![tactic(auto)]
 
-ghost use Rattle.std.specs.Prelude.{◌≡◌, ◌+◌, ◌≤◌, ◌<◌, length, get_or};
+ghost use Rattle.std.specs.Prelude.{◌≡◌, ◌+◌, ◌≤◌, ◌<◌, length, take};
 ghost use Rattle.text.specs.Bytes.{same};
 ghost use Rattle.text.specs.Written.{Written, WrittenAt};
 ghost use Rattle.keywords.specs.Keywords.{words, word_of, find_word};
@@ -13,58 +13,46 @@ pub enum Vocabulary {
     Layout,
 }
 
-// The five words that open a form of a job, each padded with 0 to eight bytes.
-const JOB_WORDS: [[u8; 8]; 5] = [
-    *b"board\0\0\0",
-    *b"rows\0\0\0\0",
-    *b"tracks\0\0",
-    *b"net\0\0\0\0\0",
-    *b"block\0\0\0",
+// A word, padded with 0 to eight bytes, and its length without the padding.
+#[derive(Clone, Copy)]
+struct Keyword([u8; 8], usize);
+
+// The five words that open a form of a job.
+const JOB_WORDS: [Keyword; 5] = [
+    Keyword(*b"board\0\0\0", 5),
+    Keyword(*b"rows\0\0\0\0", 4),
+    Keyword(*b"tracks\0\0", 6),
+    Keyword(*b"net\0\0\0\0\0", 3),
+    Keyword(*b"block\0\0\0", 5),
 ];
 
-// The lengths of the five words without the padding.
-const JOB_LENGTHS: [usize; 5] = [5, 4, 6, 3, 5];
-
-// The four words that open a line of a layout, each padded with 0 to eight bytes.
-const LAYOUT_WORDS: [[u8; 8]; 4] = [
-    *b"layout\0\0",
-    *b"track\0\0\0",
-    *b"wire\0\0\0\0",
-    *b"loose\0\0\0",
+// The four words that open a line of a layout.
+const LAYOUT_WORDS: [Keyword; 4] = [
+    Keyword(*b"layout\0\0", 6),
+    Keyword(*b"track\0\0\0", 5),
+    Keyword(*b"wire\0\0\0\0", 4),
+    Keyword(*b"loose\0\0\0", 5),
 ];
-
-// The lengths of the four words without the padding.
-const LAYOUT_LENGTHS: [usize; 4] = [6, 5, 4, 5];
 
 // How many words there are.
-pub fn word_count(v: Vocabulary) -> usize
+fn word_count(v: Vocabulary) -> usize
     ensures { result ≡ length (words v) }
 {
     match v {
-        Vocabulary::Job => 5,
-        Vocabulary::Layout => 4,
+        Vocabulary::Job => JOB_WORDS.len(),
+        Vocabulary::Layout => LAYOUT_WORDS.len(),
     }
 }
 
-// The length of word i.
-pub fn word_len(v: Vocabulary, i: usize) -> usize
+// Word i as its table holds it.
+fn keyword_at(v: Vocabulary, i: usize) -> Keyword
     requires { i < length (words v) }
-    ensures { result ≡ length (word_of v i) }
+    ensures word_is { take result.1 result.0 ≡ word_of v i }
+    ensures padded { result.1 ≤ 8 }
 {
     match v {
-        Vocabulary::Job => JOB_LENGTHS[i],
-        Vocabulary::Layout => LAYOUT_LENGTHS[i],
-    }
-}
-
-// Byte j of word i.
-pub fn word_byte(v: Vocabulary, i: usize, j: usize) -> u8
-    requires { (i < length (words v)) × (j < length (word_of v i)) }
-    ensures { result ≡ get_or (word_of v i) j 0 }
-{
-    match v {
-        Vocabulary::Job => JOB_WORDS[i][j],
-        Vocabulary::Layout => LAYOUT_WORDS[i][j],
+        Vocabulary::Job => JOB_WORDS[i],
+        Vocabulary::Layout => LAYOUT_WORDS[i],
     }
 }
 
@@ -73,13 +61,8 @@ pub fn put_word(out: &mut [u8], v: Vocabulary, i: usize) -> usize
     requires { (i < length (words v)) × (length (word_of v i) ≤ length out.old) }
     ensures { Written (word_of v i) out.old out.new result }
 {
-    let n = word_len(v, i);
-    let mut j = 0;
-    while j < n {
-        out[j] = word_byte(v, i, j);
-        j += 1;
-    }
-    n
+    let Keyword(bytes, n) = keyword_at(v, i);
+    text::put_bytes(out, &bytes[..n])
 }
 
 // Writes word i from the place `at` on, into the rest of out, and returns the next place.
@@ -95,31 +78,13 @@ pub fn is_word(s: &[u8], v: Vocabulary, i: usize) -> bool
     requires { i < length (words v) }
     ensures { result ≡ same s.now (word_of v i) }
 {
-    let n = word_len(v, i);
-    if s.len() != n {
-        return false;
-    }
-    let mut j = 0;
-    while j < n {
-        if s[j] != word_byte(v, i, j) {
-            return false;
-        }
-        j += 1;
-    }
-    true
+    let Keyword(bytes, n) = keyword_at(v, i);
+    s == &bytes[..n]
 }
 
-// The index of the word that s is, or how many words there are.
-pub fn find_word(v: Vocabulary, s: &[u8]) -> usize
+// The index of the word that s is, where it is one.
+pub fn find_word(v: Vocabulary, s: &[u8]) -> Option<usize>
     ensures { result ≡ find_word v s.now }
 {
-    let n = word_count(v);
-    let mut i = 0;
-    while i < n {
-        if is_word(s, v, i) {
-            return i;
-        }
-        i += 1;
-    }
-    n
+    (0..word_count(v)).find(|i| is_word(s, v, *i))
 }

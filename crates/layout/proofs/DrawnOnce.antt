@@ -2,7 +2,7 @@
 use Prim.Native.Nat.{ℕ, ◌+◌, ◌*◌, ◌-◌, ◌≤◌, min, max}
 use mathlib.Core.Path.{◌≡◌, refl, sym, ap, ap₂, ◌∙◌}
 use mathlib.Core.Bool.{true, false, cond}
-use mathlib.Core.Option.{none, some}
+use Rattle.std.specs.Prelude.{None, Some}
 use mathlib.Core.List.{List, [], ◌∷◌}
 use native.Mathlib.Omega.{arith}
 use lib.Dec.{eqb, ltb}
@@ -79,12 +79,12 @@ module _ (job : Job) (t : ℕ) (on_track : 1 ≤ t) where
   wire_column_lem : eqb (wire_column t) (wire_column t) ≡ true
   wire_column_lem = eq-eqb (wire_column t) (wire_column t) refl
 
-  plain_first : (n : Net) (r : ℕ) → first_in (wire_column t) (points_on job.board t (placement_at n Plain r)) ≡ none
+  plain_first : (n : Net) (r : ℕ) → first_in (wire_column t) (points_on job.board t (placement_at n Plain r)) ≡ None
   unfolding points_on corners first_in
   plain_first n r =
       first_in_distinct (wire_column t) (at 0 n.left.0) (corners job.board t (placement_at n Plain r) Plain) ∙ rw (pin_column, via_column_lem, last_column)
 
-  stretched_first : (n : Net) (e r : ℕ) → first_in (wire_column t) (points_on job.board t (placement_at n (Stretched e) r)) ≡ some (near_row (placement_at n (Stretched e) r))
+  stretched_first : (n : Net) (e r : ℕ) → first_in (wire_column t) (points_on job.board t (placement_at n (Stretched e) r)) ≡ Some (near_row (placement_at n (Stretched e) r))
   unfolding points_on corners first_in
   stretched_first n e r =
       first_in_distinct (wire_column t) (at 0 n.left.0) (corners job.board t (placement_at n (Stretched e) r) (Stretched e)) ∙

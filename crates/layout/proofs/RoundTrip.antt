@@ -2,7 +2,7 @@
 use mathlib.Core.Path.{◌≡◌, refl, sym, ap, ◌∙◌}
 use mathlib.Core.Bool.{Bool, true, false, cond, not, ◌&&◌}
 use mathlib.Core.List.{List, [], ◌∷◌, ◌++◌, map}
-use mathlib.Core.Option.{none, some}
+use Rattle.std.specs.Prelude.{None, Some}
 use Prim.Native.Nat.{ℕ, ◌+◌, ◌<◌}
 use native.Mathlib.Omega.{arith}
 use lib.ListN.{get_or, drop}
@@ -139,7 +139,7 @@ pub rough_line_lem : (x : Line) → rough_line (line_text x) ≡ x
 unfolding rough_line of_words
 rough_line_lem x = ap of_words (words_line x) ∙ of_written_words x
 
-pub read_line_lem : (x : Line) → small_line x ≡ true → read_line (line_text x) ≡ some x
+pub read_line_lem : (x : Line) → small_line x ≡ true → read_line (line_text x) ≡ Some x
 unfolding read_line
 read_line_lem x h = rw (rough_line_lem x, same_refl (line_text x), h)
 
@@ -177,18 +177,18 @@ pub rough_layout_lem : (l : Layout) → rough_layout (layout_text l) ≡ l
 unfolding rough_layout layout_text
 rough_layout_lem l = rw (lines_text_lem (layout_lines l), map_back (layout_lines l), gather_layout l)
 
-pub read_layout_lem : (l : Layout) → small_lines (layout_lines l) ≡ true → read_layout (layout_text l) ≡ some l
+pub read_layout_lem : (l : Layout) → small_lines (layout_lines l) ≡ true → read_layout (layout_text l) ≡ Some l
 unfolding read_layout
 read_layout_lem l h = rw (rough_layout_lem l, same_refl (layout_text l), h)
 
 -- what is read is its text, so a text is of one layout at most
 
-pub only_some : {A : Type 0} (t : Bool) (x y : A) → cond t (some x) none ≡ some y → (t ≡ true) × (x ≡ y)
+pub only_some : {A : Type 0} (t : Bool) (x y : A) → cond t (Some x) None ≡ Some y → (t ≡ true) × (x ≡ y)
 only_some true x y e = (refl, cc)
 only_some false x y e = (cc, cc)
 
 -- a line that is read has its text, and its numbers have at most six digits
-pub read_line_sound : (s : List ℕ) (x : Line) → read_line s ≡ some x → (s ≡ line_text x) × (small_line x ≡ true)
+pub read_line_sound : (s : List ℕ) (x : Line) → read_line s ≡ Some x → (s ≡ line_text x) × (small_line x ≡ true)
 unfolding read_line
 read_line_sound s x e =
     let r = rough_line s in
@@ -196,7 +196,7 @@ read_line_sound s x e =
     let k = and_split (same (line_text r) s) (small_line r) h.0 in
     (sym (same_true (line_text r) s k.0) ∙ ap line_text h.1, ap small_line (sym h.1) ∙ k.1)
 
-pub read_layout_sound : (s : List ℕ) (l : Layout) → read_layout s ≡ some l → s ≡ layout_text l
+pub read_layout_sound : (s : List ℕ) (l : Layout) → read_layout s ≡ Some l → s ≡ layout_text l
 unfolding read_layout
 read_layout_sound s l e =
     let r = rough_layout s in

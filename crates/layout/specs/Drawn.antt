@@ -1,6 +1,5 @@
 -- Back from points: the one placement of a net that they can draw on a track, where its rows hold the fixed ones; and the net of a number.
-use Rattle.std.specs.Prelude.{ℕ, ◌-◌, ◌≤◌, min, max, cond, List, [], ◌∷◌, eqb}
-use Rattle.std.proofs.Math.Option.{Option, none, some}
+use Rattle.std.specs.Prelude.{ℕ, ◌-◌, ◌≤◌, min, max, cond, List, [], ◌∷◌, eqb, Option, None, Some}
 use Rattle.lists.specs.Lists.{first_of}
 use Rattle.board.specs.declared.Net.{Net}
 use Rattle.board.specs.declared.Shape.TheVariants.{Plain, Stretched}
@@ -17,8 +16,8 @@ pub record Fixed (p : Placement) : Type 0 where
 
 -- the row of the first point in column c, if one stands there
 unfoldable pub first_in : ℕ → List Point → Option ℕ
-first_in c [] = none
-first_in c (p ∷ ps) = cond (eqb p.column c) (some p.row) (first_in c ps)
+first_in c [] = None
+first_in c (p ∷ ps) = cond (eqb p.column c) (Some p.row) (first_in c ps)
 
 -- the row of the last point in column c; d if none stands there
 unfoldable pub last_in : ℕ → ℕ → List Point → ℕ
@@ -28,8 +27,8 @@ last_in c d (p ∷ ps) = last_in c (cond (eqb p.column c) p.row d) ps
 -- the one placement of net n that the points can draw on track t, by the row of the first point in the track's wire column: plain if
 -- there is none
 unfoldable pub placement_from : Net → List Point → ℕ → Option ℕ → Placement
-placement_from n ps t none = record { net = n; shape = Plain; top = upper n }
-placement_from n ps t (some u) =
+placement_from n ps t None = record { net = n; shape = Plain; top = upper n }
+placement_from n ps t (Some u) =
     let v = last_in (wire_column t) u ps in
     record { net = n; shape = Stretched (max u v - min u v - span n); top = min u v }
 

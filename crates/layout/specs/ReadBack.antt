@@ -1,6 +1,5 @@
 -- Reading a text back: a text is a layout exactly if it is the text of a tree with numbers of at most six digits.
-use Rattle.std.specs.Prelude.{Bool, true, cond, ◌&&◌, List, [], ◌∷◌, map, ℕ, get_or, drop, ltb}
-use Rattle.std.proofs.Math.Option.{Option, none, some}
+use Rattle.std.specs.Prelude.{Bool, true, cond, ◌&&◌, List, [], ◌∷◌, map, ℕ, get_or, drop, ltb, Option, None, Some}
 use Rattle.text.specs.Bytes.{same, pieces, non_empty, lines, ends_word}
 use Rattle.text.specs.Digits.{value_from}
 use Rattle.keywords.specs.Keywords.{layout_word, track_word, wire_word, loose_word}
@@ -78,8 +77,8 @@ small_lines (x ∷ xs) = small_line x && small_lines xs
 
 -- the line that a text (without byte 10) is, if it is one
 unfoldable pub read_line : List ℕ → Option Line
-read_line s = let x = rough_line s in cond (same (line_text x) s && small_line x) (some x) none
+read_line s = let x = rough_line s in cond (same (line_text x) s && small_line x) (Some x) None
 
 -- the layout that a text is, if it is one
 unfoldable pub read_layout : List ℕ → Option Layout
-read_layout s = let l = rough_layout s in cond (same (layout_text l) s && small_lines (layout_lines l)) (some l) none
+read_layout s = let l = rough_layout s in cond (same (layout_text l) s && small_lines (layout_lines l)) (Some l) None

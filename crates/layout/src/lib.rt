@@ -2,7 +2,7 @@
 #![tactic(auto)]
 
 // A point of a wire: (column row).
-#[derive(Clone, Copy)]
+#[derive(Clone, Copy, PartialEq, Eq)]
 pub struct Point {
     pub column: usize,
     pub row: usize,

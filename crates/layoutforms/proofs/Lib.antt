@@ -2,7 +2,6 @@
 pub mod NumbersRead
 pub mod PointsRead
 pub mod ExactForms
-pub mod Answers
 pub mod RowsRead
 pub mod FormsRead
 pub mod FormExamples

@@ -1,63 +1,70 @@
--- The laws of a number read at a place of a line: what was read stands there, and what stands there is read. Assumes nothing.
+-- The laws of a number that a text begins with: what was read stands there, and what stands there is read. Assumes nothing.
 use mathlib.Core.Path.{◌≡◌, refl, sym, ap, ◌∙◌}
-use mathlib.Core.Bool.{Bool, true, false, cond, not, ◌&&◌}
+use mathlib.Core.Bool.{Bool, true, false, not, ◌&&◌, and-true, and-false}
 use mathlib.Core.List.{List, [], ◌∷◌, ◌++◌}
-use mathlib.Core.Option.{Option, none, some}
+use Rattle.std.specs.Prelude.{Option, None, Some, cond, option_map}
 use Prim.Native.Nat.{ℕ, suc, ◌+◌, ◌-◌, ◌*◌, ◌≤◌, ◌<◌, ◌^◌}
 use native.Mathlib.Omega.{arith}
-use native.Mathlib.Numerals.{add-one}
 use native.Mathlib.Decide.{dec_lt}
-use native.Mathlib.Nat.{add-sub_cancel_left, pow-suc, pow-le-pow_right}
-use lib.ListN.{length, get_or, take, drop, length-drop, length-take, take-append-drop, drop_of_length-le}
-use lib.Seq.{drop-cons, drop-drop, take-append_seam, drop-append_seam}
-use lib.Dec.{eqb, leb, lit≤}
-use borrow.Author.Tests.{eq-eqb, ne_eqb, eqb-true, eqb-false, leb-true, not-true}
+use native.Mathlib.Nat.{pow-suc, pow-le-pow_right}
+use Rattle.std.proofs.lemmas.Option.{none-some, same_Some, cond_some, option_and_then_some}
+use lib.ListN.{length, get_or, take, drop, take-append-drop}
+use Rattle.std.proofs.lemmas.Slice.{between_to_end}
+use lib.Seq.{take-append_seam, drop-append_seam}
+use lib.Dec.{eqb, leb, ltb, lit≤}
+use borrow.Author.Tests.{lt-ltb, ne_eqb, eqb-true, eqb-false, leb-true, not-true}
 use Rattle.lists.specs.Lists.{all_of}
 use Rattle.lists.proofs.Cases.{by_test, and_split}
-use Rattle.text.specs.Bytes.{ends_word}
+use Rattle.text.specs.Bytes.{same, ends_word}
 use Rattle.text.specs.Digits.{digits, is_digit, value_from, number}
 use Rattle.text.proofs.Numbers.{digits_small, digits_value, first_not_zero, number_digits}
-use Rattle.lines.specs.Places.{until, scan}
-use Rattle.lines.proofs.Scans.{until_le}
+use Rattle.lines.specs.Places.{until}
 use Rattle.layout.proofs.RoundTrip.{only_some, digits_inner}
-use Rattle.layoutforms.specs.Exact.{begins_with, leading_zero, exact_number, number_up_to, number_at, spaced_at, opened_at}
-use Rattle.layoutforms.specs.declared.parts.LayoutNumber.{LayoutNumber}
-use Rattle.layoutforms.specs.declared.parts.LayoutNumber.TheVariants.{Value, Missing}
+use Rattle.layoutforms.specs.Exact.{shut_text, behind, leading_zero, exact_number, number_in, spaced_number, opened_number}
 
--- ---- a byte at a place
+-- ---- the bytes that a pattern reads
 
-pub byte_there : (s : List ℕ) (at b : ℕ) → at < length s → begins_with b (drop at s) ≡ eqb (get_or s at 0) b
-unfolding begins_with
-byte_there s at b h = rw (drop-cons s at 0 h)
+pub zero_is : (w : List ℕ) → leading_zero w ≡ (ltb 1 (length w) && eqb (get_or w 0 0) 48)
+unfolding leading_zero
+zero_is [] = refl
+zero_is (b ∷ []) = refl
+zero_is (b ∷ c ∷ w) = rw (lt-ltb 1 (suc (suc (length w))) (omega arith))
 
-pub byte_past : (s : List ℕ) (at b : ℕ) → length s ≤ at → begins_with b (drop at s) ≡ false
-unfolding begins_with
-byte_past s at b h = rw (drop_of_length-le s h)
+pub shut_is : (t : List ℕ) → same t shut_text ≡ (eqb (length t) 1 && eqb (get_or t 0 0) 41)
+unfolding same
+shut_is [] = refl
+shut_is (b ∷ []) = and-true (eqb b 41)
+shut_is (b ∷ c ∷ t) = rw (ne_eqb (suc (suc (length t))) 1 (λ e. omega arith)) (and-false (eqb b 41))
 
--- byte b stands at the place, and the rest behind it
-pub record ByteRead (s : List ℕ) (at b : ℕ) : Type 0 where
-  pub inside : at < length s
-  pub text : drop at s ≡ b ∷ drop (at + 1) s
+pub behind_is : (b : ℕ) (t : List ℕ) → behind b t ≡ cond (ltb 0 (length t) && eqb (get_or t 0 0) b) (Some (take (length t - 1) (drop 1 t))) None
+unfolding behind
+behind_is b [] = refl
+behind_is b (c ∷ t) = rw (lt-ltb 0 (suc (length t)) (omega arith), between_to_end (c ∷ t) 1 (suc (length t)) (omega arith))
 
-pub byte_read : (s : List ℕ) (at b : ℕ) → begins_with b (drop at s) ≡ true → ByteRead s at b
-byte_read s at b e =
-    elim (dec_lt at (length s)) [
-      | yes h ↦
-          let d : get_or s at 0 ≡ b = eqb-true (get_or s at 0) b (sym (byte_there s at b h) ∙ e) in
-          record { inside = h; text = rw (add-one at) (drop-cons s at 0 h ∙ ap (λ (x : ℕ). x ∷ drop (suc at) s) d) }
-      | no h ↦
-          let z : ◌≡◌ {A = Bool} true false = sym e ∙ byte_past s at b (omega arith) in
-          let o : ◌≡◌ {A = ℕ} 0 1 = cc in
-          absurd (omega arith)
-    ]
+pub spaced_is : (t : List ℕ) →
+    spaced_number t ≡ cond (ltb 0 (length t) && eqb (get_or t 0 0) 32) (number_in (take (length t - 1) (drop 1 t))) None
+unfolding spaced_number
+spaced_is t = rw (behind_is 32 t) (by_test (ltb 0 (length t) && eqb (get_or t 0 0) 32) (λ e. rw e) (λ e. rw e))
 
-pub byte_begins : (b : ℕ) (t u : List ℕ) → t ≡ b ∷ u → begins_with b t ≡ true
-unfolding begins_with
-byte_begins b t u e = rw (e, eq-eqb b b refl)
+pub opened_is : (t : List ℕ) →
+    opened_number t
+    ≡ cond (ltb 1 (length t) && (eqb (get_or t 0 0) 32 && eqb (get_or t 1 0) 40)) (number_in (take (length t - 2) (drop 2 t))) None
+unfolding opened_number behind
+opened_is [] = refl
+opened_is (b ∷ []) = by_test (eqb b 32) (λ e. rw e) (λ e. rw e)
+opened_is (b ∷ c ∷ t) =
+    rw (lt-ltb 1 (suc (suc (length t))) (omega arith), between_to_end (b ∷ c ∷ t) 2 (suc (suc (length t))) (omega arith))
+    (by_test (eqb b 32) (λ e. rw e (by_test (eqb c 40) (λ f. rw f) (λ f. rw f))) (λ e. rw e))
 
--- what stands behind the first byte from a place on
-pub behind_byte : (s : List ℕ) (at b : ℕ) (t : List ℕ) → drop at s ≡ b ∷ t → drop (at + 1) s ≡ t
-behind_byte s at b t e = sym (drop-drop 1 at s) ∙ ap (drop 1) e
+-- ---- what is behind a byte
+
+pub behind_read : (b : ℕ) (t rest : List ℕ) → behind b t ≡ Some rest → t ≡ b ∷ rest
+unfolding behind
+behind_read b [] rest e = absurd (none-some rest e)
+behind_read b (c ∷ t) rest e =
+    let q = cond_some (eqb c b) t rest e in
+    let h : c ≡ b = eqb-true c b q.0 in
+    rw (h, q.1)
 
 -- ---- a word that is a number
 
@@ -95,7 +102,7 @@ pub record WordRead (w : List ℕ) (v : ℕ) : Type 0 where
   pub small : v < 1000000
   pub some_digit : 1 ≤ length w
 
-number_parts : (w : List ℕ) (v : ℕ) → leading_zero w ≡ false → number 6 w ≡ some v → WordRead w v
+number_parts : (w : List ℕ) (v : ℕ) → leading_zero w ≡ false → number 6 w ≡ Some v → WordRead w v
 unfolding number
 number_parts w v z e =
     let h = only_some (leb 1 (length w) && leb (length w) 6 && all_of is_digit w) (value_from 0 w) v e in
@@ -112,10 +119,10 @@ number_parts w v z e =
       some_digit = l;
     })
 
-pub word_read : (w : List ℕ) (v : ℕ) → exact_number w ≡ some v → WordRead w v
+pub word_read : (w : List ℕ) (v : ℕ) → exact_number w ≡ Some v → WordRead w v
 unfolding exact_number
 word_read w v e =
-    by_test (leading_zero w) (λ z. let q : none ≡ some v = rw z at e in let o : ◌≡◌ {A = ℕ} 0 1 = cc in absurd (omega arith))
+    by_test (leading_zero w) (λ z. let q : None ≡ Some v = rw z at e in let o : ◌≡◌ {A = ℕ} 0 1 = cc in absurd (omega arith))
     (λ z. number_parts w v z (rw z at e))
 
 no_zero : (w : List ℕ) → 49 ≤ get_or w 0 0 → leading_zero w ≡ false
@@ -132,45 +139,53 @@ digits_lead v =
       | no h ↦ no_zero (digits v) (first_not_zero v (omega arith))
     ]
 
-exact_digits : (v : ℕ) → v < 1000000 → exact_number (digits v) ≡ some v
+exact_digits : (v : ℕ) → v < 1000000 → exact_number (digits v) ≡ Some v
 unfolding exact_number
 exact_digits v h = rw (digits_lead v) (number_digits 5 v (omega arith))
 
--- ---- a number at a place
+-- ---- a number
 
--- the text `before` stands at the place, then a number of at most six digits without leading zeros
-pub record NumberRead (s : List ℕ) (at : ℕ) (before : List ℕ) (v next : ℕ) : Type 0 where
-  pub text : drop at s ≡ before ++ (digits v ++ drop next s)
-  pub small : v < 1000000
-  pub ahead : at < next
-  pub within : next ≤ length s
+-- the text `before` stands first, then a number of at most six digits without leading zeros, then the rest
+pub record NumberRead (t before : List ℕ) (r : ℕ × List ℕ) : Type 0 where
+  pub text : t ≡ before ++ (digits r.0 ++ r.1)
+  pub small : r.0 < 1000000
 
-up_to : (o : Option ℕ) (to v next : ℕ) → number_up_to o to ≡ Value v next → (o ≡ some v) × (to ≡ next)
-unfolding number_up_to
-up_to none to v next e = (cc, cc)
-up_to (some x) to v next e = (cc, cc)
+mapped : (o : Option ℕ) (rest : List ℕ) (r : ℕ × List ℕ) → option_map (λ v. (v, rest)) o ≡ Some r → (o ≡ Some r.0) × (rest ≡ r.1)
+mapped None rest r e = (cc, cc)
+mapped (Some v) rest r e =
+    let q = same_Some (v, rest) r e in
+    (ap (λ (x : ℕ × List ℕ). Some x.0) q, ap (λ (x : ℕ × List ℕ). x.1) q)
 
-pub number_read : (s : List ℕ) (at v next : ℕ) → at ≤ length s → number_at s at ≡ Value v next → NumberRead s at [] v next
-unfolding number_at scan
-number_read s at v next h e =
-    let u = until ends_word (drop at s) in
-    let p = up_to (exact_number (take (at + u - at) (drop at s))) (at + u) v next e in
-    let w = word_read (take u (drop at s)) v (rw (add-sub_cancel_left at u) at p.0) in
-    let n : at + u ≡ next = p.1 in
-    let l = until_le ends_word (drop at s) in
-    rw (← n)
-    (record {
-      text = sym (take-append-drop u (drop at s)) ∙ (rw (w.text, drop-drop u at s));
-      small = w.small;
-      ahead = omega (arith, w.some_digit, length-take u (drop at s));
-      within = omega (arith, length-drop at s);
-    })
+pub number_read : (t : List ℕ) (r : ℕ × List ℕ) → number_in t ≡ Some r → NumberRead t [] r
+unfolding number_in
+number_read t r e =
+    let u = until ends_word t in
+    let p = mapped (exact_number (take u t)) (drop u t) r e in
+    let w = word_read (take u t) r.0 p.0 in
+    record { text = sym (take-append-drop u t) ∙ (rw (w.text, p.1)); small = w.small }
 
--- and back: what stands there is read
-pub record NumberThere (s : List ℕ) (r : LayoutNumber) (v : ℕ) (t : List ℕ) : Type 0 where
-  pub next : ℕ
-  pub read : r ≡ Value v next
-  pub behind : drop next s ≡ t
+pub spaced_read : (t : List ℕ) (r : ℕ × List ℕ) → spaced_number t ≡ Some r → NumberRead t (32 ∷ []) r
+unfolding spaced_number
+spaced_read t r e =
+    option_and_then_some number_in (behind 32 t) r e
+    (λ rest f g.
+    let n = number_read rest r g in
+    record { text = behind_read 32 t rest f ∙ ap (λ (l : List ℕ). 32 ∷ l) n.text; small = n.small })
+
+pub opened_read : (t : List ℕ) (r : ℕ × List ℕ) → opened_number t ≡ Some r → NumberRead t (32 ∷ 40 ∷ []) r
+unfolding opened_number
+opened_read t r e =
+    option_and_then_some _ (behind 32 t) r e
+    (λ bracket f g.
+    option_and_then_some number_in (behind 40 bracket) r g
+    (λ rest h k.
+    let n = number_read rest r k in
+    record {
+      text = behind_read 32 t bracket f ∙ ap (λ (l : List ℕ). 32 ∷ l) (behind_read 40 bracket rest h ∙ ap (λ (l : List ℕ). 40 ∷ l) n.text);
+      small = n.small;
+    }))
+
+-- and back: what stands there is read, where a byte behind it ends the number
 
 pub until_then : (f : ℕ → Bool) (w : List ℕ) (c : ℕ) (t : List ℕ) → all_of (λ b. not (f b)) w ≡ true → f c ≡ true → until f (w ++ c ∷ t) ≡ length w
 unfolding until all_of
@@ -179,58 +194,15 @@ until_then f (b ∷ w) c t a e =
     let h = and_split (not (f b)) (all_of (λ b. not (f b)) w) a in
     rw (not-true (f b) h.0, until_then f w c t h.1 e)
 
-pub number_there : (s : List ℕ) (at v c : ℕ) (t : List ℕ) → drop at s ≡ digits v ++ c ∷ t → ends_word c ≡ true → v < 1000000 → NumberThere s (number_at s at) v (c ∷ t)
-unfolding number_at scan number_up_to
-number_there s at v c t e m h =
-    record {
-      next = at + length (digits v);
-      read = rw (e, until_then ends_word (digits v) c t (digits_inner v) m, add-sub_cancel_left at (length (digits v)), take-append_seam (digits v) (c ∷ t), exact_digits v h);
-      behind = sym (drop-drop (length (digits v)) at s) ∙ ap (drop (length (digits v))) e ∙ drop-append_seam (digits v) (c ∷ t);
-    }
+pub number_there : (v c : ℕ) (t : List ℕ) → ends_word c ≡ true → v < 1000000 → number_in (digits v ++ c ∷ t) ≡ Some (v, c ∷ t)
+unfolding number_in
+number_there v c t m h =
+    rw (until_then ends_word (digits v) c t (digits_inner v) m, take-append_seam (digits v) (c ∷ t), drop-append_seam (digits v) (c ∷ t), exact_digits v h)
 
--- ---- behind a space, and behind a space and a bracket
+pub spaced_there : (v c : ℕ) (t : List ℕ) → ends_word c ≡ true → v < 1000000 → spaced_number (32 ∷ (digits v ++ c ∷ t)) ≡ Some (v, c ∷ t)
+unfolding spaced_number behind
+spaced_there v c t m h = number_there v c t m h
 
-pub spaced_read : (s : List ℕ) (at v next : ℕ) → spaced_at s at ≡ Value v next → NumberRead s at (32 ∷ []) v next
-unfolding spaced_at
-spaced_read s at v next e =
-    by_test (begins_with 32 (drop at s))
-    (λ q.
-    let b = byte_read s at 32 q in
-    let n = number_read s (at + 1) v next (omega arith) (rw q at e) in
-    record { text = b.text ∙ ap (λ (l : List ℕ). 32 ∷ l) n.text; small = n.small; ahead = omega arith; within = n.within })
-    (λ q. let z : Missing ≡ Value v next = rw q at e in let o : ◌≡◌ {A = ℕ} 0 1 = cc in absurd (omega arith))
-
-pub opened_read : (s : List ℕ) (at v next : ℕ) → opened_at s at ≡ Value v next → NumberRead s at (32 ∷ 40 ∷ []) v next
-unfolding opened_at
-opened_read s at v next e =
-    by_test (begins_with 32 (drop at s))
-    (λ q.
-    let f : cond (begins_with 40 (drop (at + 1) s)) (number_at s (at + 2)) Missing ≡ Value v next = rw q at e in
-    by_test (begins_with 40 (drop (at + 1) s))
-    (λ r.
-    let b = byte_read s at 32 q in
-    let c = byte_read s (at + 1) 40 r in
-    let i : at + 1 + 1 ≡ at + 2 = omega arith in
-    let n = number_read s (at + 2) v next (omega arith) (rw r at f) in
-    record {
-      text = b.text ∙ ap (λ (l : List ℕ). 32 ∷ l) (c.text ∙ ap (λ (l : List ℕ). 40 ∷ l) (ap (λ (k : ℕ). drop k s) i ∙ n.text));
-      small = n.small;
-      ahead = omega arith;
-      within = n.within;
-    })
-    (λ r. let z : Missing ≡ Value v next = rw r at f in let o : ◌≡◌ {A = ℕ} 0 1 = cc in absurd (omega arith)))
-    (λ q. let z : Missing ≡ Value v next = rw q at e in let o : ◌≡◌ {A = ℕ} 0 1 = cc in absurd (omega arith))
-
-pub spaced_there : (s : List ℕ) (at v c : ℕ) (t : List ℕ) → drop at s ≡ 32 ∷ (digits v ++ c ∷ t) → ends_word c ≡ true → v < 1000000 → NumberThere s (spaced_at s at) v (c ∷ t)
-unfolding spaced_at
-spaced_there s at v c t e m h =
-    rw (byte_begins 32 (drop at s) (digits v ++ c ∷ t) e)
-    (number_there s (at + 1) v c t (behind_byte s at 32 (digits v ++ c ∷ t) e) m h)
-
-pub opened_there : (s : List ℕ) (at v c : ℕ) (t : List ℕ) → drop at s ≡ 32 ∷ 40 ∷ (digits v ++ c ∷ t) → ends_word c ≡ true → v < 1000000 → NumberThere s (opened_at s at) v (c ∷ t)
-unfolding opened_at
-opened_there s at v c t e m h =
-    let i : at + 1 + 1 ≡ at + 2 = omega arith in
-    let d = behind_byte s at 32 (40 ∷ (digits v ++ c ∷ t)) e in
-    rw (byte_begins 32 (drop at s) (40 ∷ (digits v ++ c ∷ t)) e, byte_begins 40 (drop (at + 1) s) (digits v ++ c ∷ t) d)
-    (number_there s (at + 2) v c t (ap (λ (k : ℕ). drop k s) (sym i) ∙ behind_byte s (at + 1) 40 (digits v ++ c ∷ t) d) m h)
+pub opened_there : (v c : ℕ) (t : List ℕ) → ends_word c ≡ true → v < 1000000 → opened_number (32 ∷ 40 ∷ (digits v ++ c ∷ t)) ≡ Some (v, c ∷ t)
+unfolding opened_number behind
+opened_there v c t m h = number_there v c t m h

@@ -1,25 +1,31 @@
--- The parts of a line of a layout at a place of it. Document 01, "Drawing": single spaces, numbers of one to six digits, no leading zeros.
-use Rattle.std.specs.Prelude.{Bool, false, cond, ◌&&◌, List, [], ◌∷◌, map, ℕ, ◌+◌, ◌-◌, take, drop, eqb}
-use Rattle.std.proofs.Math.Option.{Option, none, some}
+-- The parts of a line of a layout, each at the start of a text, with what is behind it. Document 01, "Drawing": single spaces, numbers of
+-- one to six digits, no leading zeros.
+use denote.Ref.{Bor}
+use Rattle.std.specs.Prelude.{Bool, false, cond, ◌&&◌, List, [], ◌∷◌, map, ℕ, take, drop, eqb, Option, None, Some, option_map, option_and_then}
 use Rattle.text.specs.Bytes.{same, ends_word}
 use Rattle.text.specs.Digits.{number, value_from}
-use Rattle.lines.specs.Places.{scan}
+use Rattle.lines.specs.Places.{until}
 use Rattle.layout.specs.declared.Point.{Point}
 use Rattle.layout.specs.LayoutText.{points_then}
 use Rattle.layout.specs.ReadBack.{words_in, points_of, small_points}
-use Rattle.layoutforms.specs.declared.parts.LayoutNumber.{LayoutNumber}
-use Rattle.layoutforms.specs.declared.parts.LayoutNumber.TheVariants.{Value, Missing}
-use Rattle.layoutforms.specs.declared.parts.LayoutPoint.{LayoutPoint}
-use Rattle.layoutforms.specs.declared.parts.LayoutPoint.TheVariants.{Stands, Absent}
+
+infixl 10 ◌>>=◌
+-- what is made of a value that was read; none where none was
+abbrev pub ◌>>=◌ : {A B : Type 0} → Option A → (A → Option B) → Option B
+o >>= f = option_and_then f o
+
+-- what the code read, with what is behind it as a text
+abbrev pub read_of : {A : Type 0} → Option (A × Bor (List ℕ)) → Option (A × List ℕ)
+read_of o = option_map (λ r. (r.0, r.1.now)) o
 
 -- the closing bracket as a text
 abbrev pub shut_text : List ℕ
 shut_text = 41 ∷ []
 
--- a text begins with byte b
-unfoldable pub begins_with : ℕ → List ℕ → Bool
-begins_with b [] = false
-begins_with b (c ∷ t) = eqb c b
+-- what is behind byte b, where a text begins with it
+unfoldable pub behind : ℕ → List ℕ → Option (List ℕ)
+behind b [] = None
+behind b (c ∷ t) = cond (eqb c b) (Some t) None
 
 -- a digit 0 before other digits
 unfoldable pub leading_zero : List ℕ → Bool
@@ -29,38 +35,32 @@ leading_zero (b ∷ c ∷ w) = eqb b 48
 
 -- a word of one to six digits without leading zeros is a number
 unfoldable pub exact_number : List ℕ → Option ℕ
-exact_number w = cond (leading_zero w) none (number 6 w)
+exact_number w = cond (leading_zero w) None (number 6 w)
 
--- a number and the byte behind it
-unfoldable pub number_up_to : Option ℕ → ℕ → LayoutNumber
-number_up_to none next = Missing
-number_up_to (some v) next = Value v next
-
--- what stands as a number at a place
-unfoldable pub number_at : List ℕ → ℕ → LayoutNumber
-number_at s at = let to = scan ends_word s at in number_up_to (exact_number (take (to - at) (drop at s))) to
+-- a number, as far as a word ends
+unfoldable pub number_in : List ℕ → Option (ℕ × List ℕ)
+number_in t = option_map (λ v. (v, drop (until ends_word t) t)) (exact_number (take (until ends_word t) t))
 
 -- a number behind one space
-unfoldable pub spaced_at : List ℕ → ℕ → LayoutNumber
-spaced_at s at = cond (begins_with 32 (drop at s)) (number_at s (at + 1)) Missing
+unfoldable pub spaced_number : List ℕ → Option (ℕ × List ℕ)
+spaced_number t = do
+  rest ← behind 32 t
+  number_in rest
 
 -- a number behind one space and an opening bracket
-unfoldable pub opened_at : List ℕ → ℕ → LayoutNumber
-opened_at s at = cond (begins_with 32 (drop at s)) (cond (begins_with 40 (drop (at + 1) s)) (number_at s (at + 2)) Missing) Missing
+unfoldable pub opened_number : List ℕ → Option (ℕ × List ℕ)
+opened_number t = do
+  bracket ← behind 32 t
+  rest ← behind 40 bracket
+  number_in rest
 
--- the row of a point whose column was read, and the closing bracket behind it
-unfoldable pub point_from : List ℕ → ℕ → LayoutNumber → LayoutPoint
-point_from s column Missing = Absent
-point_from s column (Value row to) = cond (begins_with 41 (drop to s)) (Stands (record { column = column; row = row }) (to + 1)) Absent
-
--- a point whose column was read or not
-unfoldable pub point_behind : List ℕ → LayoutNumber → LayoutPoint
-point_behind s Missing = Absent
-point_behind s (Value column to) = point_from s column (spaced_at s to)
-
--- what stands as a point, " (column row)", at a place
-unfoldable pub point_at : List ℕ → ℕ → LayoutPoint
-point_at s at = point_behind s (opened_at s at)
+-- a point, " (column row)"
+unfoldable pub point_in : List ℕ → Option (Point × List ℕ)
+point_in t = do
+  column ← opened_number t
+  row ← spaced_number column.1
+  rest ← behind 41 row.1
+  Some (record { column = column.0; row = row.0 }, rest)
 
 -- the points that the words of a text say, whatever stands between them
 unfoldable pub points_in : List ℕ → List Point

@@ -5,15 +5,15 @@
 mod parts;
 pub mod rows;
 
-ghost use Rattle.std.specs.Prelude.{◌≡◌, ◌≤◌, length, drop};
+ghost use Rattle.std.specs.Prelude.{◌≡◌};
 ghost use Rattle.layout.specs.ReadBack.{read_line};
+ghost use Rattle.text.specs.Bytes.{same};
 ghost use Rattle.layoutforms.specs.LayoutForms.{layout_form_of};
-ghost use Rattle.layoutforms.specs.Exact.{spaced_at, is_points};
+ghost use Rattle.layoutforms.specs.Exact.{shut_text, is_points};
 ghost use Rattle.layoutforms.specs.ExactForm.{loose_form, wire_form, track_form, form_behind, inner_form};
 
 use keywords::Vocabulary;
-use lines::Stop;
-use parts::{LayoutNumber, LayoutPoint, byte_is, point_at, shut_at, spaced_at};
+use parts::{point_in, spaced_number, split_word};
 
 // What a line of a layout is, a wire without its points.
 #[derive(Clone, Copy)]
@@ -23,119 +23,90 @@ pub enum LayoutForm {
     Wire { number: usize },
     Loose { number: usize },
     Closing,
-    Other,
+}
+
+// Whether the closing bracket is all that is left.
+#[tactic(auto, using(crate::proofs::NumbersRead::shut_is))]
+fn is_shut(s: &[u8]) -> bool
+    ensures { result ≡ same s.now shut_text }
+{
+    matches!(s, [b')'])
 }
 
 // Whether points and a closing bracket are all that is left.
-fn all_points(s: &[u8], at: usize) -> bool
-    requires { at ≤ length s.now }
-    ensures { result ≡ is_points (drop at s.now) }
+fn all_points(mut s: &[u8]) -> bool
+    ensures { result ≡ is_points s.entry.now }
 {
-    let mut p = at;
-    while p < s.len() {
-        match point_at(s, p) {
-            LayoutPoint::Stands(_, next) => {
-                p = next;
-            }
-            LayoutPoint::Absent => {
-                return shut_at(s, p);
-            }
-        }
+    while let Some((_, rest)) = point_in(s) {
+        s = rest;
     }
-    false
+    is_shut(s)
 }
 
 // What stands behind the word loose: a number and the closing bracket.
-fn loose_form(s: &[u8], at: usize) -> LayoutForm
-    requires { at ≤ length s.now }
-    ensures { result ≡ loose_form s.now (spaced_at s.now at) }
+#[tactic(auto, unfolding(crate::specs::ExactForm::loose_form))]
+fn loose_form(s: &[u8]) -> Option<LayoutForm>
+    ensures { result ≡ loose_form s.now }
 {
-    match spaced_at(s, at) {
-        LayoutNumber::Value(number, to) => {
-            if !shut_at(s, to) {
-                return LayoutForm::Other;
-            }
-            LayoutForm::Loose { number }
-        }
-        LayoutNumber::Missing => LayoutForm::Other,
-    }
+    let (number, rest) = spaced_number(s)?;
+    is_shut(rest).then_some(LayoutForm::Loose { number })
 }
 
 // What stands behind the word wire: a number, points and the closing bracket.
-fn wire_form(s: &[u8], at: usize) -> LayoutForm
-    requires { at ≤ length s.now }
-    ensures { result ≡ wire_form s.now (spaced_at s.now at) }
+#[tactic(auto, unfolding(crate::specs::ExactForm::wire_form))]
+fn wire_form(s: &[u8]) -> Option<LayoutForm>
+    ensures { result ≡ wire_form s.now }
 {
-    match spaced_at(s, at) {
-        LayoutNumber::Value(number, to) => {
-            if !all_points(s, to) {
-                return LayoutForm::Other;
-            }
-            LayoutForm::Wire { number }
-        }
-        LayoutNumber::Missing => LayoutForm::Other,
-    }
+    let (number, rest) = spaced_number(s)?;
+    all_points(rest).then_some(LayoutForm::Wire { number })
 }
 
 // What stands behind the word track: two numbers and the closing bracket.
-fn track_form(s: &[u8], at: usize) -> LayoutForm
-    requires { at ≤ length s.now }
-    ensures { result ≡ track_form s.now (spaced_at s.now at) }
+#[tactic(auto, unfolding(crate::specs::ExactForm::track_form))]
+fn track_form(s: &[u8]) -> Option<LayoutForm>
+    ensures { result ≡ track_form s.now }
 {
-    match spaced_at(s, at) {
-        LayoutNumber::Value(track, behind) => match spaced_at(s, behind) {
-            LayoutNumber::Value(sum, to) => {
-                if !shut_at(s, to) {
-                    return LayoutForm::Other;
-                }
-                LayoutForm::Track { track, sum }
-            }
-            LayoutNumber::Missing => LayoutForm::Other,
-        },
-        LayoutNumber::Missing => LayoutForm::Other,
-    }
+    let (track, rest) = spaced_number(s)?;
+    let (sum, rest) = spaced_number(rest)?;
+    is_shut(rest).then_some(LayoutForm::Track { track, sum })
 }
 
 // What stands behind word i of the layout's table.
-fn form_behind(s: &[u8], at: usize, i: usize) -> LayoutForm
-    requires { at ≤ length s.now }
-    ensures { result ≡ form_behind s.now at i }
+#[tactic(auto, unfolding(crate::specs::ExactForm::form_behind))]
+fn form_behind(i: usize, s: &[u8]) -> Option<LayoutForm>
+    ensures { result ≡ form_behind i s.now }
 {
     match i {
-        1 => track_form(s, at),
-        2 => wire_form(s, at),
-        3 => loose_form(s, at),
-        _ => LayoutForm::Other,
+        1 => track_form(s),
+        2 => wire_form(s),
+        3 => loose_form(s),
+        _ => None,
     }
 }
 
-// A line that begins with a space.
-fn inner_form(s: &[u8]) -> LayoutForm
+// What stands behind the space that an inner line begins with.
+#[tactic(auto, using(crate::proofs::NumbersRead::behind_is), unfolding(crate::specs::ExactForm::inner_form))]
+fn inner_form(s: &[u8]) -> Option<LayoutForm>
     ensures { result ≡ inner_form s.now }
 {
-    if !byte_is(s, 1, 40) {
-        return LayoutForm::Other;
-    }
-    let to = lines::scan_to(Stop::WordEnd, s, 2);
-    let i = keywords::find_word(Vocabulary::Layout, &s[2..to]);
-    form_behind(s, to, i)
+    let [b'(', s @ ..] = s else {
+        return None;
+    };
+    let (word, rest) = split_word(s);
+    form_behind(keywords::find_word(Vocabulary::Layout, word)?, rest)
 }
 
-// The form of a line, without its byte 10.
-pub fn read_layout_line(s: &[u8]) -> LayoutForm
+// The form of a line, without its byte 10, if it is of one.
+#[tactic(auto, using(crate::proofs::ExactForms::form_read))]
+pub fn read_layout_line(s: &[u8]) -> Option<LayoutForm>
     ensures { result ≡ layout_form_of (read_line s.now) }
 {
-    if byte_is(s, 0, 32) {
-        return inner_form(s);
-    }
-    if byte_is(s, 0, 40) {
-        if keywords::is_word(&s[1..], Vocabulary::Layout, 0) {
-            return LayoutForm::Opening;
+    match s {
+        [b' ', rest @ ..] => inner_form(rest),
+        [b'(', word @ ..] if keywords::is_word(word, Vocabulary::Layout, 0) => {
+            Some(LayoutForm::Opening)
         }
-        return LayoutForm::Other;
+        [b')'] => Some(LayoutForm::Closing),
+        _ => None,
     }
-    if shut_at(s, 0) {
-        return LayoutForm::Closing;
-    }
-    LayoutForm::Other
 }

@@ -1,112 +1,80 @@
-// The parts of a line of a layout at a place of it: single bytes, numbers and points.
-ghost use Rattle.std.specs.Prelude.{◌≡◌, ◌≤◌, length, drop};
-ghost use Rattle.text.specs.Bytes.{same};
-ghost use Rattle.layoutforms.specs.Exact.{shut_text, begins_with, leading_zero, number_at, spaced_at, opened_at, point_at};
+// The parts of a line of a layout, each read from the start of a text: a word, numbers and points. What is behind the part is left.
+ghost use Rattle.std.specs.Prelude.{◌≡◌, take, drop};
+ghost use Rattle.text.specs.Bytes.{ends_word};
+ghost use Rattle.lines.specs.Places.{until};
+ghost use Rattle.layoutforms.specs.Exact.{read_of, leading_zero, exact_number, number_in, spaced_number, opened_number, point_in};
 
 use layout::Point;
-use lines::Stop;
-use text::Number;
 
-// What stands as a number at a place: its value and the byte behind it; or something else.
-#[derive(Clone, Copy)]
-pub enum LayoutNumber {
-    Value(usize, usize),
-    Missing,
-}
-
-// What stands as a point at a place: it and the byte behind it; or something else.
-#[derive(Clone, Copy)]
-pub enum LayoutPoint {
-    Stands(Point, usize),
-    Absent,
-}
-
-// Whether byte b stands at a place.
-pub fn byte_is(s: &[u8], at: usize, b: u8) -> bool
-    ensures { result ≡ begins_with b (drop at s.now) }
+// The word that a text begins with, and what is behind it.
+#[tactic(auto, unfolding(lines::specs::Places::scan))]
+pub fn split_word(s: &[u8]) -> (&[u8], &[u8])
+    ensures word { result.0.now ≡ take (until ends_word s.now) s.now }
+    ensures behind { result.1.now ≡ drop (until ends_word s.now) s.now }
 {
-    if s.len() <= at {
-        return false;
-    }
-    s[at] == b
-}
-
-// Whether the closing bracket is all that is left.
-pub fn shut_at(s: &[u8], at: usize) -> bool
-    requires { at ≤ length s.now }
-    ensures { result ≡ same (drop at s.now) shut_text }
-{
-    if s.len() - at != 1 {
-        return false;
-    }
-    s[at] == 41
+    s.split_at(lines::word_end(s, 0))
 }
 
 // Whether a digit 0 stands before other digits.
-fn leading_zero(w: &[u8]) -> bool
-    ensures { result ≡ leading_zero w.now }
+#[tactic(auto, using(crate::proofs::NumbersRead::zero_is))]
+fn leading_zero(word: &[u8]) -> bool
+    ensures { result ≡ leading_zero word.now }
 {
-    if w.len() < 2 {
-        return false;
-    }
-    w[0] == 48
+    matches!(word, [b'0', _, ..])
 }
 
-// The number at a place.
-fn number_at(s: &[u8], at: usize) -> LayoutNumber
-    requires { at ≤ length s.now }
-    ensures { result ≡ number_at s.now at }
+// The number that a word of one to six digits without leading zeros says.
+#[tactic(auto, unfolding(crate::specs::Exact::exact_number))]
+fn exact_number(word: &[u8]) -> Option<usize>
+    ensures { result ≡ exact_number word.now }
 {
-    let to = lines::scan_to(Stop::WordEnd, s, at);
-    if leading_zero(&s[at..to]) {
-        return LayoutNumber::Missing;
+    if leading_zero(word) {
+        return None;
     }
-    match text::read_number(&s[at..to], 6) {
-        Number::Value(v) => LayoutNumber::Value(v, to),
-        Number::Bad => LayoutNumber::Missing,
-    }
+    text::read_number(word, 6)
+}
+
+// The number that a text begins with.
+#[tactic(auto, unfolding(crate::specs::Exact::number_in))]
+pub fn number_in(s: &[u8]) -> Option<(usize, &[u8])>
+    ensures { read_of result ≡ number_in s.now }
+{
+    let (word, rest) = split_word(s);
+    Some((exact_number(word)?, rest))
 }
 
 // The number behind one space.
-pub fn spaced_at(s: &[u8], at: usize) -> LayoutNumber
-    requires { at ≤ length s.now }
-    ensures { result ≡ spaced_at s.now at }
+#[tactic(auto, using(crate::proofs::NumbersRead::spaced_is))]
+pub fn spaced_number(s: &[u8]) -> Option<(usize, &[u8])>
+    ensures { read_of result ≡ spaced_number s.now }
 {
-    if !byte_is(s, at, 32) {
-        return LayoutNumber::Missing;
+    match s {
+        [b' ', rest @ ..] => number_in(rest),
+        _ => None,
     }
-    number_at(s, at + 1)
 }
 
 // The number behind one space and an opening bracket.
-fn opened_at(s: &[u8], at: usize) -> LayoutNumber
-    requires { at ≤ length s.now }
-    ensures { result ≡ opened_at s.now at }
+#[tactic(auto, using(crate::proofs::NumbersRead::opened_is))]
+fn opened_number(s: &[u8]) -> Option<(usize, &[u8])>
+    ensures { read_of result ≡ opened_number s.now }
 {
-    if !byte_is(s, at, 32) {
-        return LayoutNumber::Missing;
+    match s {
+        [b' ', b'(', rest @ ..] => number_in(rest),
+        _ => None,
     }
-    if !byte_is(s, at + 1, 40) {
-        return LayoutNumber::Missing;
-    }
-    number_at(s, at + 2)
 }
 
-// The point at a place.
-pub fn point_at(s: &[u8], at: usize) -> LayoutPoint
-    requires { at ≤ length s.now }
-    ensures { result ≡ point_at s.now at }
+// The point, ` (column row)`, that a text begins with. The walks over the points of a wire are a fifth slower where it is called.
+#[tactic(auto, using(crate::proofs::NumbersRead::behind_is), unfolding(crate::specs::Exact::point_in))]
+#[inline(always)]
+pub fn point_in(s: &[u8]) -> Option<(Point, &[u8])>
+    ensures { read_of result ≡ point_in s.now }
 {
-    match opened_at(s, at) {
-        LayoutNumber::Value(column, behind) => match spaced_at(s, behind) {
-            LayoutNumber::Value(row, to) => {
-                if !byte_is(s, to, 41) {
-                    return LayoutPoint::Absent;
-                }
-                LayoutPoint::Stands(Point { column, row }, to + 1)
-            }
-            LayoutNumber::Missing => LayoutPoint::Absent,
-        },
-        LayoutNumber::Missing => LayoutPoint::Absent,
+    let (column, s) = opened_number(s)?;
+    let (row, s) = spaced_number(s)?;
+    match s {
+        [b')', rest @ ..] => Some((Point { column, row }, rest)),
+        _ => None,
     }
 }

@@ -2,7 +2,7 @@
 use Prim.Native.Nat.{ℕ, suc, ◌+◌, ◌-◌, ◌≤◌, ◌<◌, min}
 use mathlib.Core.Path.{◌≡◌, refl, ap, ◌∙◌}
 use mathlib.Core.Bool.{true}
-use mathlib.Core.Option.{none}
+use Rattle.std.specs.Prelude.{None, Some}
 use mathlib.Core.List.{List, [], ◌∷◌, ◌++◌}
 use native.Mathlib.Omega.{arith}
 use native.Mathlib.Decide.{dec_lt}
@@ -13,7 +13,7 @@ use Rattle.lists.specs.Lists.{all_of}
 use Rattle.text.specs.Bytes.{is_end, pieces}
 use Rattle.lines.specs.Places.{until, step_at}
 use Rattle.lines.specs.declared.Place.{Place}
-use Rattle.lines.specs.declared.Step.TheVariants.{Line, End}
+use Rattle.lines.specs.declared.Line.{Line}
 use Rattle.lines.proofs.Scans.{until_le, until_before, until_at}
 use Rattle.lines.proofs.Steps.{step_over, end_of_lines}
 use Rattle.layout.specs.ReadBack.{read_line}
@@ -31,7 +31,7 @@ first_ended t h =
     line_then (take u t) (drop (suc u) t) (unfold plain in (until_before is_end t))
 
 -- a text without byte 10
-none_ended : (t : List ℕ) → 1 ≤ length t → length t ≤ until is_end t → lines_read t ≡ none ∷ []
+none_ended : (t : List ℕ) → 1 ≤ length t → length t ≤ until is_end t → lines_read t ≡ None ∷ []
 none_ended t l h =
     let w : take (until is_end t) t ≡ t = take_all (until is_end t) t h in
     let before : all_of plain (take (until is_end t) t) ≡ true = unfold plain in (until_before is_end t) in
@@ -67,11 +67,11 @@ module _ (s : List ℕ) (p : Place) where
             rw (eq-eqb next to n, none_left, none_read) (none_ended here (omega arith) (omega arith))
       ]
 
-  pub lines_ahead : (from to : ℕ) (n : Place) → Line from to n ≡ step_at s p → lines_read here ≡ line_read s from to n.at ∷ lines_read (drop n.at s)
-  lines_ahead from to n e =
-      let q = step_over s p from to n e in
-      rw q.from_is (line_ahead q.more to n.at q.to_is q.next_is)
+  pub lines_ahead : (l : Line) → Some l ≡ step_at s p → lines_read here ≡ line_read s l.from l.to l.next.at ∷ lines_read (drop l.next.at s)
+  lines_ahead l e =
+      let q = step_over s p l e in
+      rw q.from_is (line_ahead q.more l.to l.next.at q.to_is q.next_is)
 
   -- the end of the text
-  pub none_ahead : End ≡ step_at s p → lines_read here ≡ []
+  pub none_ahead : None ≡ step_at s p → lines_read here ≡ []
   none_ahead e = ap lines_read (drop_of_length-le s {i = p.at} (end_of_lines s p e).1) ∙ none_read

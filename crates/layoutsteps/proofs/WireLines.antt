@@ -1,16 +1,14 @@
 -- What a wire line draws, where its net is known and where it is not. Assumes nothing.
-use Prim.Native.Nat.{ℕ, ◌≤◌, ◌<◌}
+use Prim.Native.Nat.{ℕ, ◌≤◌}
 use mathlib.Core.Path.{◌≡◌, refl, sym, ap, subst, ◌∙◌}
 use mathlib.Core.Bool.{◌&&◌, true≢false}
-use mathlib.Core.Option.{Option, none, some}
+use Rattle.std.specs.Prelude.{Option, None, Some, IfSome}
 use mathlib.Core.List.{List}
 use native.Mathlib.Omega.{arith}
 use borrow.Author.Tests.{leb-true, eq-eqb}
 use Rattle.lists.proofs.Cases.{by_option, and_split}
 use Rattle.board.specs.declared.Board.{Board}
 use Rattle.board.specs.declared.Net.{Net}
-use Rattle.board.specs.declared.Row.{Row}
-use Rattle.board.specs.declared.Shape.{Shape}
 use Rattle.board.specs.Job.{Job}
 use Rattle.board.specs.Weight.{weight}
 use Rattle.board.specs.Placement.{Placement, placement_at, bottom}
@@ -25,89 +23,92 @@ use Rattle.sound.specs.Wires.{weight_by, weight_of}
 use Rattle.sound.proofs.Nets.{net_some, net_of}
 use Rattle.drc.proofs.Drawings.{placement_net}
 use Rattle.drc.specs.Covers.{same_points, is_on_board, drawn_of, drawn_from, drawn_by}
-use Rattle.drawnwires.specs.declared.DrawnPlace.TheVariants.{Nothing, At}
+use Rattle.drawnwires.specs.declared.DrawnPlace.{DrawnPlace}
 use Rattle.drawnwires.specs.DrawnPlaces.{place_of}
 use Rattle.judging.specs.declared.NetFound.{NetFound}
 use Rattle.judging.proofs.Indexes.{index_number, index_none, found_listed, found_weight}
-use Rattle.layoutsteps.specs.Found.{IsFound, FoundFor}
+use Rattle.judging.specs.Values.{position_numbered}
+use Rattle.layoutsteps.specs.Found.{FoundFor}
 
 -- ---- the placement that is answered
 
-pub place_none : (o : Option Placement) → Nothing ≡ place_of o → o ≡ none
+pub place_none : (o : Option Placement) → None ≡ place_of o → o ≡ None
 unfolding place_of
-place_none none e = refl
-place_none (some p) e = cc
+place_none None e = refl
+place_none (Some p) e = cc
 
-record PlaceIs (o : Option Placement) (top : Row) (s : Shape) : Type 0 where
+record PlaceIs (o : Option Placement) (r : DrawnPlace) : Type 0 where
   place : Placement
-  is : o ≡ some place
-  top_is : place.top ≡ top.0
-  shape_is : place.shape ≡ s
+  is : o ≡ Some place
+  top_is : place.top ≡ r.top.0
+  shape_is : place.shape ≡ r.shape
 
-place_some : (o : Option Placement) (top : Row) (s : Shape) → At top s ≡ place_of o → PlaceIs o top s
+place_some : (o : Option Placement) (r : DrawnPlace) → Some r ≡ place_of o → PlaceIs o r
 unfolding place_of
-place_some none top s e = let z : ◌≡◌ {A = ℕ} 0 1 = cc in absurd (omega arith)
-place_some (some p) top s e =
-    let row : top ≡ record { 0 = p.top } = cc in
-    record { place = p; is = refl; top_is = sym (ap (λ (r : Row). r.0) row); shape_is = cc }
+place_some None r e = let z : ◌≡◌ {A = ℕ} 0 1 = cc in absurd (omega arith)
+place_some (Some p) r e =
+    let q : r ≡ record { top = record { 0 = p.top }; shape = p.shape } = cc in
+    record { place = p; is = refl; top_is = sym (ap (λ (x : DrawnPlace). x.top.0) q); shape_is = sym (ap (λ (x : DrawnPlace). x.shape) q) }
 
 -- a placement drawn: of the net, with that shape and top, within the rows of the board
-pub record DrawnAt (board : Board) (t : ℕ) (ps : List Point) (n : Net) (top : Row) (s : Shape) : Type 0 where
-  pub drawn_is : drawn_of board t ps n ≡ some (placement_at n s top.0)
-  pub from_one : 1 ≤ top.0
-  pub to_last : bottom (placement_at n s top.0) ≤ board.rows
+pub record DrawnAt (board : Board) (t : ℕ) (ps : List Point) (n : Net) (r : DrawnPlace) : Type 0 where
+  pub drawn_is : drawn_of board t ps n ≡ Some (placement_at n r.shape r.top.0)
+  pub from_one : 1 ≤ r.top.0
+  pub to_last : bottom (placement_at n r.shape r.top.0) ≤ board.rows
 
-pub drawn_at : (board : Board) (t : ℕ) (ps : List Point) (n : Net) (top : Row) (s : Shape) → At top s ≡ place_of (drawn_of board t ps n) →
-    DrawnAt board t ps n top s
+pub drawn_at : (board : Board) (t : ℕ) (ps : List Point) (n : Net) (r : DrawnPlace) → Some r ≡ place_of (drawn_of board t ps n) → DrawnAt board t ps n r
 unfolding drawn_of is_on_board is_from_one is_to_last
-drawn_at board t ps n top s e =
-    let o = place_some (drawn_of board t ps n) top s e in
-    let q = placement_of t n ps in
+drawn_at board t ps n r e =
+    let q : Placement = placement_of t n ps in
+    let o = place_some (drawn_of board t ps n) r e in
     let test = only_some (is_on_board board q && same_points (points_on board t q) ps) q o.place o.is in
     let net : o.place.net ≡ n = ap (λ (p : Placement). p.net) (sym test.1) ∙ placement_net t n ps in
-    let same : o.place ≡ placement_at n s top.0 = λ i. record { net = net i; shape = o.shape_is i; top = o.top_is i } in
+    let same : o.place ≡ placement_at n r.shape r.top.0 = λ i. record { net = net i; shape = o.shape_is i; top = o.top_is i } in
     let on = (and_split (is_on_board board q) (same_points (points_on board t q) ps) test.0).0 in
     let all = and_split (is_from_one q && is_over_upper q && is_under_lower q) (is_to_last board q) on in
     let two = and_split (is_from_one q && is_over_upper q) (is_under_lower q) all.0 in
     let one = and_split (is_from_one q) (is_over_upper q) two.0 in
     let whole = test.1 ∙ same in
     record {
-      drawn_is = o.is ∙ ap some same;
+      drawn_is = o.is ∙ ap Some same;
       from_one = subst (λ (p : Placement). 1 ≤ p.top) whole (leb-true 1 q.top one.0);
       to_last = subst (λ (p : Placement). bottom p ≤ board.rows) whole (leb-true (bottom q) board.rows all.1);
     }
 
 -- ---- the net of the line
 
-module _ (job : Job) (a : AcceptedJob job) (w : Wire) (found : NetFound) (is : FoundFor job w.number found) where
+module _ (job : Job) (w : Wire) where
   -- no net has the number
-  unnumbered : found.index ≡ 512 → net_numbered job w.number ≡ none
-  unnumbered e =
-      by_option (net_numbered job w.number)
-      (λ n. n)
-      (λ n f.
-      let s = net_some job w.number n f in
-      absurd (true≢false (sym (eq-eqb n.number w.number s.1) ∙ index_none job w.number found.index a is.index_is e n s.0)))
+  module _ (none : None ≡ position_numbered w.number job.nets) where
+    unnumbered : net_numbered job w.number ≡ None
+    unnumbered =
+        by_option (net_numbered job w.number)
+        (λ n. n)
+        (λ n f.
+        let s = net_some job w.number n f in
+        absurd (true≢false (sym (eq-eqb n.number w.number s.1) ∙ index_none job.nets w.number none n s.0)))
 
-  pub unknown_undrawn : (t : ℕ) → found.index ≡ 512 → drawn_by job t w ≡ none
-  unfolding drawn_by drawn_from
-  unknown_undrawn t e = rw (unnumbered e)
+    pub unknown_undrawn : (t : ℕ) → drawn_by job t w ≡ None
+    unfolding drawn_by drawn_from
+    unknown_undrawn t = rw unnumbered
 
-  pub unknown_weight : found.index ≡ 512 → weight_of job w.number ≡ 0
-  unfolding weight_of weight_by
-  unknown_weight e = rw (unnumbered e)
+    pub unknown_weight : weight_of job w.number ≡ 0
+    unfolding weight_of weight_by
+    unknown_weight = rw unnumbered
 
-  module _ (d : IsFound found) where
+  module _ (a : AcceptedJob job) (found : NetFound) (at : FoundFor job w.number (Some found)) where
     -- the net found has the number
     pub found_number : found.net.number ≡ w.number
-    found_number = ap (λ (n : Net). n.number) (sym (is.net_is d).net_is) ∙ (index_number job w.number found.index is.index_is d).1
+    found_number = ap (λ (n : Net). n.number) (sym at.net_is.net_is) ∙ (index_number job.nets w.number found.index at.index_is).1
 
     pub known_weight : weight_of job w.number ≡ weight found.net
-    known_weight = found_weight job found (is.net_is d) a w.number found_number
+    known_weight = found_weight job found at.net_is a w.number found_number
 
     pub known_drawn : (t : ℕ) → drawn_by job t w ≡ drawn_of job.board t w.points found.net
     unfolding drawn_by drawn_from
-    known_drawn t = rw (ap (net_numbered job) (sym found_number) ∙ net_of job a.numbers_rise found.net (found_listed job found (is.net_is d)))
+    known_drawn t = rw (ap (net_numbered job) (sym found_number) ∙ net_of job a.numbers_rise found.net (found_listed job found at.net_is))
 
-pub below_512 : (i : ℕ) → i ≤ 512 → (i ≡ 512 → ⊥) → i < 512
-below_512 i h d = omega arith
+-- the number of a line that was read is that of the net found for it
+pub numbered_found : (found : Option NetFound) (i k : ℕ) → i ≡ k → IfSome found (λ n. Some k ≡ Some n.net.number) → IfSome found (λ n. i ≡ n.net.number)
+numbered_found None i k e h = tt
+numbered_found (Some n) i k e h = cc

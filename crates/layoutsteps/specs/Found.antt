@@ -1,59 +1,58 @@
 -- The net that a line is of, as the check looks it up.
-use Rattle.std.specs.Prelude.{◌≡◌, List, map, ℕ, ◌≤◌, ◌<◌, length, get_or, take}
-use Rattle.std.proofs.Math.Option.{Option, some}
+use Rattle.std.specs.Prelude.{◌≡◌, List, map, ℕ, ◌<◌, eqb, length, get_or, take, Option, None, Some, IfSome, option_map, position}
 use Rattle.board.specs.declared.Board.{Board}
 use Rattle.board.specs.declared.Net.{Net}
 use Rattle.board.specs.declared.StoredJob.{StoredJob}
 use Rattle.board.specs.Job.{Job}
-use Rattle.board.specs.Stored.{job_of, AcceptedStored}
+use Rattle.board.specs.Stored.{job_of, no_net, AcceptedStored}
 use Rattle.board.specs.Accepted.{BoardInRange, AcceptedNet}
 use Rattle.layout.specs.Tree.{Wire, Line, wire}
 use Rattle.layout.specs.ReadBack.{read_line}
-use Rattle.candidates.specs.Placed.{padded, index_from, preceding_of}
+use Rattle.candidates.specs.Placed.{padded, preceding_of}
 use Rattle.layoutforms.specs.declared.LayoutForm.{LayoutForm}
 use Rattle.judging.specs.declared.NetFound.{NetFound}
-use Rattle.judging.specs.Values.{is_numbered, NetIs}
-use Rattle.layoutsteps.specs.declared.NetSlot.{NetSlot}
+use Rattle.judging.specs.Values.{position_numbered, NetIs}
 use Rattle.layoutsteps.specs.LayoutSteps.{form_number, LineIs}
 
 -- what is worked out of an accepted job once, by the index of its nets: their numbers, and the index of the net that precedes each
-pub record NetTables (job : StoredJob) (numbers before : List ℕ) : Type 0 where
+pub record NetTables (job : StoredJob) (numbers : List ℕ) (before : List (Option ℕ)) : Type 0 where
   pub accepted : AcceptedStored job
   pub numbers_are : numbers ≡ padded 0 (map (λ n. n.number) (job_of job).nets)
   pub before_are : before ≡ preceding_of (job_of job)
 
--- the index of the net with number k among `count` nets, 512 if no net has it, a slot that is that index where it is one, and what `before`
--- has there
-pub record SlotFor (numbers before : List ℕ) (count k : ℕ) (r : NetSlot) : Type 0 where
-  pub index_is : (ns : List Net) → length ns ≡ count → take count numbers ≡ map (λ n. n.number) ns → r.index ≡ index_from (is_numbered k) 0 ns
-  pub slot_range : r.slot < 512
-  pub slot_is : r.index < 512 → r.slot ≡ r.index
-  pub before_is : r.before ≡ get_or before r.slot 0
+-- net i of some, and the index that `before` has for it
+unfoldable pub net_in : List Net → List (Option ℕ) → ℕ → NetFound
+net_in nets before i = record { index = i; net = get_or nets i no_net; before = get_or before i None }
 
--- a net was found: its index is not 512
-abbrev pub IsFound : NetFound → Type 0
-IsFound found = found.index ≡ 512 → ⊥
+-- the net of a line with the number k, if it has one and a net has it: the first among the numbers
+unfoldable pub net_of_line : List Net → List ℕ → List (Option ℕ) → Option ℕ → Option NetFound
+net_of_line nets numbers before None = None
+net_of_line nets numbers before (Some k) = option_map (net_in nets before) (position (λ n. eqb n k) (take (length nets) numbers))
 
 -- the numbers of the net found are in range on the board
-pub record FoundFits (board : Board) (found : NetFound) : Type 0 where
+pub record FoundInRange (board : Board) (found : NetFound) : Type 0 where
+  pub index_range : found.index < 512
+  pub net_range : AcceptedNet board found.net
+  pub before_range : IfSome found.before (λ i. i < 512)
+
+-- the board and the net, if one was found, are in range
+pub record FoundFits (board : Board) (found : Option NetFound) : Type 0 where
   pub board_range : BoardInRange board
-  pub index_range : found.index ≤ 512
-  pub net_range : IsFound found → AcceptedNet board found.net
-  pub before_range : IsFound found → found.before ≤ 512
+  pub found_range : IfSome found (FoundInRange board)
 
 -- s is the line of a wire, of the net found if one was found
-pub record LineOfWire (found : NetFound) (s : List ℕ) : Type 0 where
+pub record LineOfWire (found : Option NetFound) (s : List ℕ) : Type 0 where
   pub line : Wire
-  pub read : read_line s ≡ some (wire line)
-  pub number_is : IsFound found → line.number ≡ found.net.number
+  pub read : read_line s ≡ Some (wire line)
+  pub number_is : IfSome found (λ n. line.number ≡ n.net.number)
 
 -- s is a line of the form, of the net found if one was found
-pub record LineOfForm (found : NetFound) (form : LayoutForm) (s : List ℕ) : Type 0 where
+pub record LineOfForm (found : Option NetFound) (form : Option LayoutForm) (s : List ℕ) : Type 0 where
   pub line : Option Line
   pub line_is : LineIs s line form
-  pub number_is : IsFound found → form_number form ≡ found.net.number
+  pub number_is : IfSome found (λ n. form_number form ≡ Some n.net.number)
 
--- found is the net of the job with number k, with index 512 if no net has it
-pub record FoundFor (job : Job) (k : ℕ) (found : NetFound) : Type 0 where
-  pub index_is : found.index ≡ index_from (is_numbered k) 0 job.nets
-  pub net_is : IsFound found → NetIs job found
+-- found is the net of the job with number k, if a net has it
+pub record FoundFor (job : Job) (k : ℕ) (found : Option NetFound) : Type 0 where
+  pub index_is : option_map (λ n. n.index) found ≡ position_numbered k job.nets
+  pub net_is : IfSome found (NetIs job)

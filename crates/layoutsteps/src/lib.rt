@@ -1,173 +1,148 @@
 // The step over a line of a layout text: the line is read at its place, its net is looked up, and what it leads to is worked out.
 #![tactic(auto)]
 
-ghost use Rattle.std.specs.Prelude.{◌≡◌, ◌-◌, ◌≤◌, ◌<◌, length};
-ghost use Rattle.std.proofs.Math.Option.{Option, some};
+ghost use Rattle.std.specs.Prelude.{◌≡◌, ◌≤◌, length, Option, IfOk, IfSome, Some};
 ghost use Rattle.board.specs.Job.{Job};
 ghost use Rattle.board.specs.Accepted.{AcceptedJob};
 ghost use Rattle.layout.specs.Tree.{Wire, Line, wire};
 ghost use Rattle.layout.specs.ReadBack.{read_line};
 ghost use Rattle.drc.specs.Pass.{PassState, pass_line, pass_step};
 ghost use Rattle.judging.specs.Judged.{KeepsState, KeepsStep, JudgedInRange, LineInRange};
-ghost use Rattle.judging.specs.Values.{MapOf};
+ghost use Rattle.judging.specs.Values.{track_of, MapOf};
 ghost use Rattle.layoutsteps.specs.LayoutSteps.{layout_step, form_number, LineIs};
-ghost use Rattle.layoutsteps.specs.Found.{SlotFor, FoundFits, LineOfWire, LineOfForm, FoundFor};
+ghost use Rattle.layoutsteps.specs.Found.{net_of_line, FoundFits, LineOfWire, LineOfForm, FoundFor};
 
 use board::{Board, Net, Track};
 use drawnwires::DrawnPlace;
-use judging::{LinesJudged, NetFound};
+use judging::{LinesJudged, NetFound, WireDrawn};
 use layoutforms::LayoutForm;
-use lines::{Place, Step};
+use lines::Place;
 
-// What stands at a place of a layout text: the form of the line there, its first byte and the one after its last, and the place behind
-// it; or nothing more.
+// A line of a text: its form, if it is one of a layout; its first byte and the one after its last; and the place behind it.
 #[derive(Clone, Copy)]
-pub enum LayoutStep {
-    Read(LayoutForm, usize, usize, Place),
-    End,
+pub struct LayoutLine {
+    pub form: Option<LayoutForm>,
+    pub from: usize,
+    pub to: usize,
+    pub next: Place,
 }
 
-// Where the net of a line is found: its index, 512 where the line is of no net of the job; the slot of the nets that it is copied from, the
-// first where there is no net; and the index of the net that precedes the net in that slot, 512 if there is none.
-#[derive(Clone, Copy)]
-pub struct NetSlot {
-    pub index: usize,
-    pub slot: usize,
-    pub before: usize,
-}
-
-// Reads the line at a place; a last line without byte 10 is not of the form.
-pub fn line_at(place: Place, s: &[u8]) -> LayoutStep
+// Reads the line at a place, if one is left; a last line without byte 10 is not of the form.
+#[tactic(auto, unfolding(layoutforms::specs::LayoutForms::layout_form_of, crate::specs::LayoutSteps::line_read, crate::specs::LayoutSteps::layout_on, crate::specs::LayoutSteps::layout_step))]
+pub fn line_at(place: Place, s: &[u8]) -> Option<LayoutLine>
     requires { place.passed ≤ place.at }
     ensures { result ≡ layout_step s.now place }
 {
-    match place.next_line(s) {
-        Step::Line { from, to, next } => {
-            if next.at == to {
-                return LayoutStep::Read(LayoutForm::Other, from, to, next);
-            }
-            let form = layoutforms::read_layout_line(&s[from..to]);
-            LayoutStep::Read(form, from, to, next)
-        }
-        Step::End => LayoutStep::End,
-    }
+    let line = place.next_line(s)?;
+    let form = if line.next.at == line.to {
+        None
+    } else {
+        layoutforms::read_layout_line(&s[line.from..line.to])
+    };
+    Some(LayoutLine {
+        form,
+        from: line.from,
+        to: line.to,
+        next: line.next,
+    })
 }
 
-// The number of the net that a line is of; 0 where it is of none.
-fn form_number(form: LayoutForm) -> usize
+// The number of the net that a line is of, if it is of one.
+fn form_number(form: Option<LayoutForm>) -> Option<usize>
     ensures { result ≡ form_number form }
 {
     match form {
-        LayoutForm::Opening => 0,
-        LayoutForm::Track { track: _, sum: _ } => 0,
-        LayoutForm::Wire { number } => number,
-        LayoutForm::Loose { number } => number,
-        LayoutForm::Closing => 0,
-        LayoutForm::Other => 0,
+        Some(LayoutForm::Wire { number }) => Some(number),
+        Some(LayoutForm::Loose { number }) => Some(number),
+        _ => None,
     }
 }
 
-// A slot of the nets for an index that may be 512, where no net was found.
-fn slot_of(index: usize) -> usize
-    ensures { (result < 512) × (index < 512 → result ≡ index) }
-{
-    if index < 512 {
-        return index;
-    }
-    0
-}
-
-// Looks up the net of a line of a form, by its number: in the numbers of the job's nets and the indexes of the nets that precede them.
-pub fn find_slot<'a>(
+// Looks up the net of a line of a form among the job's nets, by its number: in their numbers and the indexes of the nets that precede them,
+// 512 where none does.
+#[tactic(auto, unfolding(crate::specs::Found::net_in, crate::specs::Found::net_of_line))]
+pub fn find_net<'a>(
+    nets: &[Net],
     numbers: &'a [usize; 512],
-    before: &'a [usize; 512],
-    count: usize,
-    form: LayoutForm,
-) -> NetSlot
-    requires { count ≤ 512 }
-    ensures { SlotFor numbers.now before.now count (form_number form) result }
+    before: &'a [Option<usize>; 512],
+    form: Option<LayoutForm>,
+) -> Option<NetFound>
+    requires { length nets.now ≤ 512 }
+    ensures { result ≡ net_of_line nets.now numbers.now before.now (form_number form) }
 {
-    let index = judging::nets::net_index(numbers, count, form_number(form));
-    let slot = slot_of(index);
-    NetSlot {
+    let number = form_number(form)?;
+    let index = judging::nets::net_index(numbers, nets.len(), number)?;
+    Some(NetFound {
         index,
-        slot,
-        before: before[slot],
-    }
+        net: nets[index],
+        before: before[index],
+    })
 }
 
-// The net found, where `net` is the one in its slot.
-pub fn net_found(at: NetSlot, net: Net) -> NetFound
-    ensures { result ≡ record { index = at.index; net = net; before = at.before } }
-{
-    NetFound {
-        index: at.index,
-        net,
-        before: at.before,
-    }
-}
-
-// What a wire line leads to, where `found` is the net of its number, with index 512 if there is none.
+// What a wire line leads to, where `found` is the net of its number, if a net has it.
 fn take_wire(
     board: Board,
-    found: NetFound,
+    found: Option<NetFound>,
     words: &[u64; 16],
     stands: &mut [usize; 512],
     m: LinesJudged,
     line: usize,
     s: &[u8],
-) -> LinesJudged
-    requires line_in_range { LineInRange line }
-    requires judged_in_range { JudgedInRange (line - 1) m }
+) -> Result<LinesJudged, usize>
+    requires line_in_range { LineInRange line m }
     requires found_fits { FoundFits board found }
     requires line_of_wire { LineOfWire found s.now }
-    ensures keeps_step { (job : Job) (st : PassState) (w : Wire) → AcceptedJob job → job.board ≡ board → FoundFor job w.number found → read_line s.now ≡ some (wire w) → MapOf job m.track.0 words.now → KeepsState job st m stands.old → KeepsStep job (pass_line job line st (wire w)) result stands.new }
-    ensures judged_in_range_2 { JudgedInRange line result }
+    ensures keeps_step { (job : Job) (st : PassState) (w : Wire) → AcceptedJob job → job.board ≡ board → FoundFor job w.number found → read_line s.now ≡ Some (wire w) → MapOf job (track_of m).0 words.now → KeepsState job st m stands.old → KeepsStep job (pass_line job line st (wire w)) result stands.new }
+    ensures judged_in_range { IfOk result (JudgedInRange line) }
 {
-    if !judging::is_wire_turn(board.tracks, m) {
-        return judging::closed(m, line);
+    let LinesJudged::Running(above) = m else {
+        return Err(line);
+    };
+    if !above.is_wire_turn(board.tracks) {
+        return Err(above.closed(line));
     }
-    if found.index == 512 {
-        return judging::wires::add_undrawn(m, line, 0);
-    }
-    let net = found.net;
-    match drawnwires::drawn_place(board, net, m.track, s) {
-        DrawnPlace::Nothing => judging::wires::add_undrawn(m, line, net.weight),
-        DrawnPlace::At { top, shape } => {
-            judging::wires::add_drawn(board, found, words, stands, m, line, top, shape)
+    let Some(found) = found else {
+        return Ok(LinesJudged::Running(above.add_undrawn(line, 0)));
+    };
+    let behind = match drawnwires::drawn_place(board, found.net, above.track, s) {
+        Some(DrawnPlace { top, shape }) => {
+            let wire = WireDrawn { found, top, shape };
+            above.add_drawn(board, wire, words, stands, line)
         }
-    }
+        None => above.add_undrawn(line, found.net.weight),
+    };
+    Ok(LinesJudged::Running(behind))
 }
 
-// What a line of any form leads to, where the job has `count` nets and s is the line, without its byte 10.
+// What a line leads to, where the job has `count` nets and s is the line, without its byte 10.
 pub fn take_line(
     board: Board,
     count: usize,
-    found: NetFound,
+    found: Option<NetFound>,
     words: &[u64; 16],
     stands: &mut [usize; 512],
     m: LinesJudged,
     line: usize,
-    form: LayoutForm,
+    form: Option<LayoutForm>,
     s: &[u8],
-) -> LinesJudged
-    requires line_in_range { LineInRange line }
-    requires judged_in_range { JudgedInRange (line - 1) m }
+) -> Result<LinesJudged, usize>
+    requires line_in_range { LineInRange line m }
     requires found_fits { FoundFits board found }
     requires count_bound { (count ≤ 512) × LineOfForm found form s.now }
-    ensures keeps_step { (job : Job) (st : PassState) (x : Option Line) → AcceptedJob job → job.board ≡ board → length job.nets ≡ count → FoundFor job (form_number form) found → LineIs s.now x form → MapOf job m.track.0 words.now → KeepsState job st m stands.old → KeepsStep job (pass_step job line st x) result stands.new }
-    ensures judged_in_range_2 { JudgedInRange line result }
+    ensures keeps_step { (job : Job) (st : PassState) (x : Option Line) → AcceptedJob job → job.board ≡ board → length job.nets ≡ count → IfSome (form_number form) (λ k. FoundFor job k found) → LineIs s.now x form → MapOf job (track_of m).0 words.now → KeepsState job st m stands.old → KeepsStep job (pass_step job line st x) result stands.new }
+    ensures judged_in_range { IfOk result (JudgedInRange line) }
 {
+    let Some(form) = form else {
+        return Err(m.closed(line));
+    };
     match form {
-        LayoutForm::Opening => judging::take_opening(m, line),
-        LayoutForm::Track { track, sum } => {
-            judging::take_track(board.tracks, m, line, Track(track), sum)
-        }
+        LayoutForm::Opening => m.take_opening(line),
+        LayoutForm::Track { track, sum } => m.take_track(board.tracks, line, Track(track), sum),
         LayoutForm::Wire { number: _ } => take_wire(board, found, words, stands, m, line, s),
         LayoutForm::Loose { number } => {
-            judging::take_loose(board.tracks, m, line, number, found.index, stands)
+            let index = found.map(|net| net.index);
+            m.take_loose(board.tracks, line, number, index, stands)
         }
-        LayoutForm::Closing => judging::take_closing(board.tracks, m, line, stands, count),
-        LayoutForm::Other => judging::closed(m, line),
+        LayoutForm::Closing => m.take_closing(board.tracks, line, stands, count),
     }
 }

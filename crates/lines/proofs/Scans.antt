@@ -1,30 +1,48 @@
--- The laws of a scan for the first byte that passes a test: one for each of its steps, and what stands before and at the byte that it
--- finds. Assumes nothing.
-use mathlib.Core.Path.{◌≡◌, refl}
+-- The laws of a scan for the first byte that passes a test: that a scan finds what the definition does, and what stands before and at the
+-- byte that it finds. Assumes nothing.
+use mathlib.Core.Path.{◌≡◌, refl, sym}
 use mathlib.Core.Bool.{Bool, true, false, not}
 use mathlib.Core.List.{List, [], ◌∷◌}
-use Prim.Native.Nat.{ℕ, suc, ◌+◌, ◌≤◌, ◌<◌}
+use Prim.Native.Nat.{ℕ, zero, suc, ◌+◌, ◌-◌, ◌≤◌, ◌<◌}
 use native.Mathlib.Omega.{arith}
-use native.Mathlib.Numerals.{add-one}
-use lib.ListN.{length, get_or, take, drop_of_length-le}
-use lib.Seq.{drop-cons}
+use lib.ListN.{length, get_or, take, drop, length-drop}
+use lib.Seq.{get_or-drop, take_all}
 use Rattle.lists.specs.Lists.{all_of}
 use Rattle.lists.proofs.Cases.{by_test}
 use Rattle.lines.specs.Places.{until, scan}
+use Rattle.lines.specs.Scanned.{Scanned}
 
--- a scan that has come to place i
+-- what holds of the bytes of the rest of a text holds of those of the text
 
-pub scan_here : (f : ℕ → Bool) (s : List ℕ) (i : ℕ) → i < length s → f (get_or s i 0) ≡ true → scan f s i ≡ i
-unfolding scan until
-scan_here f s i h e = rw (drop-cons s i 0 h, e) (omega arith)
+rest_at : (P : ℕ → Type 0) (s : List ℕ) (from i : ℕ) → P (get_or (drop from s) i 0) → P (get_or s (from + i) 0)
+rest_at P s from i h = rw get_or-drop at h
 
-pub scan_later : (f : ℕ → Bool) (s : List ℕ) (i : ℕ) → i < length s → f (get_or s i 0) ≡ false → scan f s i ≡ scan f s (i + 1)
-unfolding scan until
-scan_later f s i h e = rw (drop-cons s i 0 h, e, add-one i) (omega arith)
+pub rest_lent : (P : ℕ → Type 0) (s : List ℕ) (from i : ℕ) → P (get_or (take (length s - from) (drop from s)) i 0) → P (get_or s (from + i) 0)
+rest_lent P s from i h = rest_at P s from i (rw (take_all (length s - from) (drop from s) (omega (arith, length-drop from s))) at h)
 
-pub scan_end : (f : ℕ → Bool) (s : List ℕ) (i : ℕ) → length s ≤ i → scan f s i ≡ i
-unfolding scan until
-scan_end f s i h = rw (drop_of_length-le s h) (omega arith)
+pub rest_before : (P : ℕ → Type 0) (s : List ℕ) (from n : ℕ) → ((k : ℕ) → k < n → P (get_or (drop from s) k 0)) → (k : ℕ) → from ≤ k → k < from + n → P (get_or s k 0)
+rest_before P s from n h k a b = let e : from + (k - from) ≡ k = omega arith in rw e at (rest_at P s from (k - from) (h (k - from) (omega arith)))
+
+-- a scan that found r: the definition finds the same, where the test that scanned is f
+
+until_is : (f : ℕ → Bool) (t : List ℕ) (n : ℕ) → n ≤ length t → ((k : ℕ) → k < n → f (get_or t k 0) ≡ false) → (n < length t → f (get_or t n 0) ≡ true) → until f t ≡ n
+unfolding until
+until_is f [] n h a e = omega arith
+until_is f (b ∷ t) zero h a e = rw (e (omega arith))
+until_is f (b ∷ t) (suc n) h a e =
+    let u = until_is f t n (omega arith) (λ k l. a (suc k) (omega arith)) (λ l. e (omega arith)) in
+    rw (a 0 (omega arith), u)
+
+pub scanned : (f : ℕ → Bool) {tests : ℕ → Bool → Type 0} (s : List ℕ) (from r : ℕ) → ((b : ℕ) (q : Bool) → tests b q → q ≡ f b) → Scanned tests s from r → r ≡ scan f s from
+unfolding scan
+scanned f s from r h w =
+    let n = r - from in
+    let e : from + n ≡ r = omega (arith, w.ahead) in
+    let u : until f (drop from s) ≡ n =
+    until_is f (drop from s) n (omega (arith, length-drop from s, w.within))
+    (λ k l. rw get_or-drop (sym (h _ _ (w.passed (from + k) (omega arith) (omega (arith, w.ahead))))))
+    (λ l. rw (get_or-drop, e) (sym (h _ _ (w.stopped (omega (arith, length-drop from s, w.ahead)))))) in
+    omega arith
 
 -- what it finds: no byte before it passes the test, and it does, unless the text ends there
 

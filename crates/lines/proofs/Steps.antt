@@ -7,10 +7,12 @@ use native.Mathlib.Decide.{dec_le, dec_lt}
 use native.Mathlib.Nat.{add-sub_cancel_left}
 use lib.ListN.{length, take, drop, length-drop, drop_of_length-le}
 use lib.Seq.{drop-drop}
+use Rattle.std.proofs.lemmas.Option.{none-some}
 use Rattle.lists.proofs.Cases.{by_test}
 use Rattle.text.specs.Bytes.{is_end, joined, pieces, lines}
 use Rattle.lines.specs.declared.Place.{Place}
-use Rattle.lines.specs.declared.Step.TheVariants.{Line, End}
+use Rattle.lines.specs.declared.Line.{Line}
+use Rattle.std.specs.Prelude.{None, Some}
 use Rattle.lines.specs.Places.{until, scan, line_end, step_at, step_lines}
 use Rattle.lines.specs.Stepped.{Stepped}
 use Rattle.lines.proofs.Scans.{until_le}
@@ -46,40 +48,37 @@ step_lines_lem s p =
     ]
 
 -- a step over a line by its numbers: the line begins at the place and ends before the first byte 10 or the end of the text
-pub record StepOver (s : List ℕ) (p : Place) (from to : ℕ) (n : Place) : Type 0 where
+pub record StepOver (s : List ℕ) (p : Place) (l : Line) : Type 0 where
   pub more : p.at < length s
-  pub from_is : from ≡ p.at
-  pub to_is : to ≡ p.at + until is_end (drop p.at s)
-  pub next_is : n.at ≡ min (to + 1) (length s)
-  pub count_is : n.passed ≡ p.passed + 1
+  pub from_is : l.from ≡ p.at
+  pub to_is : l.to ≡ p.at + until is_end (drop p.at s)
+  pub next_is : l.next.at ≡ min (l.to + 1) (length s)
+  pub count_is : l.next.passed ≡ p.passed + 1
 
-pub step_over : (s : List ℕ) (p : Place) (from to : ℕ) (n : Place) → Line from to n ≡ step_at s p → StepOver s p from to n
+pub step_over : (s : List ℕ) (p : Place) (l : Line) → Some l ≡ step_at s p → StepOver s p l
 unfolding scan
-step_over s p from to n e =
+step_over s p l e =
     elim (dec_lt p.at (length s)) [
       | yes h ↦
-          let m : Place = record { at = min (line_end s p.at + 1) (length s); passed = p.passed + 1 } in
-          let k : Line from to n ≡ Line p.at (line_end s p.at) m = e ∙ sym (step_line s p (line_end s p.at) m.at h refl refl) in
-          let g : n ≡ m = cc in
-          let o : to ≡ line_end s p.at = cc in
+          let m : Line =
+          record { from = p.at; to = line_end s p.at; next = record { at = min (line_end s p.at + 1) (length s); passed = p.passed + 1 } } in
+          let k : Some l ≡ Some m = e ∙ sym (step_line s p m.to m.next.at h refl refl) in
+          let g : l ≡ m = cc in
           record {
             more = h;
-            from_is = cc;
-            to_is = o;
-            next_is = ap (λ (q : Place). q.at) g ∙ ap (λ (x : ℕ). min (x + 1) (length s)) (sym o);
-            count_is = ap (λ (q : Place). q.passed) g;
+            from_is = ap (λ (x : Line). x.from) g;
+            to_is = ap (λ (x : Line). x.to) g;
+            next_is = ap (λ (x : Line). x.next.at) g ∙ ap (λ (x : Line). min (x.to + 1) (length s)) (sym g);
+            count_is = ap (λ (x : Line). x.next.passed) g;
           }
-      | no h ↦
-          let k : Line from to n ≡ End = e ∙ sym (step_end s p (omega arith)) in
-          let z : ◌≡◌ {A = ℕ} 0 1 = cc in
-          absurd (omega arith)
+      | no h ↦ let k : Some l ≡ None = e ∙ sym (step_end s p (omega arith)) in absurd (none-some _ (sym k))
     ]
 
 -- `Stepped` holds of every step over a line
-pub stepped : (s : List ℕ) (p : Place) (from to : ℕ) (n : Place) → Line from to n ≡ step_at s p → Stepped s p from to n
+pub stepped : (s : List ℕ) (p : Place) (l : Line) → Some l ≡ step_at s p → Stepped s p l
 unfolding step_lines
-stepped s p from to n e =
-    let q = step_over s p from to n e in
+stepped s p l e =
+    let q = step_over s p l e in
     record {
       starts = q.from_is;
       ordered = omega arith;
@@ -91,13 +90,11 @@ stepped s p from to n e =
     }
 
 -- and a step that finds none: no line is left
-pub end_of_lines : (s : List ℕ) (p : Place) → End ≡ step_at s p → (lines (drop p.at s) ≡ []) × (length s ≤ p.at)
+pub end_of_lines : (s : List ℕ) (p : Place) → None ≡ step_at s p → (lines (drop p.at s) ≡ []) × (length s ≤ p.at)
 unfolding step_lines
 end_of_lines s p e =
     elim (dec_lt p.at (length s)) [
       | yes h ↦
-          let k = e ∙ sym (step_line s p (line_end s p.at) (min (line_end s p.at + 1) (length s)) h refl refl) in
-          let z : ◌≡◌ {A = ℕ} 0 1 = cc in
-          absurd (omega arith)
+          let k = e ∙ sym (step_line s p (line_end s p.at) (min (line_end s p.at + 1) (length s)) h refl refl) in absurd (none-some _ k)
       | no h ↦ (step_lines_lem s p ∙ ap (step_lines s) (sym e), omega arith)
     ]

@@ -4,6 +4,7 @@ use mathlib.Core.Bool.{Bool, true, false, not, ◌||◌}
 use mathlib.Core.List.{List, [], ◌∷◌, ◌++◌, append-nil}
 use Prim.Native.Nat.{ℕ, suc, ◌+◌, ◌≤◌, ◌<◌}
 use native.Mathlib.Omega.{arith}
+use Rattle.std.specs.Prelude.{Option, None, Some}
 use native.Mathlib.Decide.{dec_lt}
 use native.Mathlib.Numerals.{add-one}
 use native.Mathlib.Nat.{add-sub_cancel_left}
@@ -19,24 +20,24 @@ use Rattle.lines.specs.Places.{until, scan}
 use Rattle.lines.specs.Tokens.{spaced, line_words, opening, closing, token_on, token_at, token_words}
 use Rattle.lines.specs.Tokened.{TokenPlaced, Tokened}
 use Rattle.lines.specs.declared.Token.{Token}
-use Rattle.lines.specs.declared.Token.TheVariants.{Nothing, Open, Shut, Word}
+use Rattle.lines.specs.declared.Token.TheVariants.{Open, Shut, Word}
 use Rattle.lines.proofs.Scans.{until_le, until_before, until_at}
 
 -- the four answers
 
-pub on_nothing : (s : List ℕ) (i : ℕ) → length s ≤ i → Nothing ≡ token_on s i
+pub on_nothing : (s : List ℕ) (i : ℕ) → length s ≤ i → None ≡ token_on s i
 unfolding token_on
 on_nothing s i h = rw (le-ltb i (length s) h)
 
-pub on_open : (s : List ℕ) (i : ℕ) → i < length s → get_or s i 0 ≡ 40 → Open (i + 1) ≡ token_on s i
+pub on_open : (s : List ℕ) (i : ℕ) → i < length s → get_or s i 0 ≡ 40 → Some (Open (i + 1)) ≡ token_on s i
 unfolding token_on
 on_open s i h e = rw (lt-ltb i (length s) h, eq-eqb (get_or s i 0) 40 e)
 
-pub on_shut : (s : List ℕ) (i : ℕ) → i < length s → get_or s i 0 ≡ 41 → Shut (i + 1) ≡ token_on s i
+pub on_shut : (s : List ℕ) (i : ℕ) → i < length s → get_or s i 0 ≡ 41 → Some (Shut (i + 1)) ≡ token_on s i
 unfolding token_on
 on_shut s i h e = rw (lt-ltb i (length s) h, e)
 
-pub on_word : (s : List ℕ) (i to : ℕ) → i < length s → (get_or s i 0 ≡ 40 → ⊥) → (get_or s i 0 ≡ 41 → ⊥) → to ≡ scan ends_word s i → Word i to ≡ token_on s i
+pub on_word : (s : List ℕ) (i to : ℕ) → i < length s → (get_or s i 0 ≡ 40 → ⊥) → (get_or s i 0 ≡ 41 → ⊥) → to ≡ scan ends_word s i → Some (Word i to) ≡ token_on s i
 unfolding token_on
 on_word s i to h a b e = rw (lt-ltb i (length s) h, ne_eqb (get_or s i 0) 40 a, ne_eqb (get_or s i 0) 41 b, e)
 
@@ -175,11 +176,11 @@ on_token s i ink =
     ]
 
 -- the places of a token at a later byte lie behind an earlier one too
-placed_before : (s : List ℕ) (at i : ℕ) (r : Token) → at ≤ i → TokenPlaced s i r → TokenPlaced s at r
-placed_before s at i Nothing h p = tt
-placed_before s at i (Open next) h p = (omega arith, p.1)
-placed_before s at i (Shut next) h p = (omega arith, p.1)
-placed_before s at i (Word from to) h p = (omega arith, p.1, p.2, p.3)
+placed_before : (s : List ℕ) (at i : ℕ) (r : Option Token) → at ≤ i → TokenPlaced s i r → TokenPlaced s at r
+placed_before s at i None h p = tt
+placed_before s at i (Some (Open next)) h p = (omega arith, p.1)
+placed_before s at i (Some (Shut next)) h p = (omega arith, p.1)
+placed_before s at i (Some (Word from to)) h p = (omega arith, p.1, p.2, p.3)
 
 -- `Tokened` holds of every token
 pub tokened : (s : List ℕ) (at : ℕ) → Tokened s at (token_at s at)

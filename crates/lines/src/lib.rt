@@ -2,7 +2,9 @@
 #![tactic(auto)]
 
 ghost use Rattle.std.specs.Prelude.{◌≡◌, ◌≤◌, length};
-ghost use Rattle.lines.specs.Places.{stops_at, scan, step_at};
+ghost use Rattle.text.specs.Bytes.{ends_word};
+ghost use Rattle.lines.specs.Places.{scan, step_at};
+ghost use Rattle.lines.specs.Scanned.{Scanned};
 ghost use Rattle.lines.specs.Tokens.{token_at};
 
 // The place that a reading has come to: the byte at which the next line begins, and the lines passed.
@@ -12,63 +14,43 @@ pub struct Place {
     pub passed: usize,
 }
 
-// What stands at a place: a line, from its first byte to the one after its last, and the place behind it; or nothing more.
+// A line, from its first byte to the one after its last, and the place behind it.
 #[derive(Clone, Copy)]
-pub enum Step {
-    Line { from: usize, to: usize, next: Place },
-    End,
+pub struct Line {
+    pub from: usize,
+    pub to: usize,
+    pub next: Place,
 }
 
-// What stands at a byte of a line, spaces passed over: a bracket, with the byte behind it; another word, from its first byte to
-// the one after its last; or nothing more.
+// What stands at a byte of a line, spaces passed over: a bracket, with the byte behind it; or another word, from its first byte to
+// the one after its last.
 #[derive(Clone, Copy)]
 pub enum Token {
-    Nothing,
     Open(usize),
     Shut(usize),
     Word { from: usize, to: usize },
 }
 
-// What a scan stops at: the byte that ends a line, a byte that is no space, a byte that ends a word.
-#[derive(Clone, Copy)]
-pub enum Stop {
-    LineEnd,
-    NotSpace,
-    WordEnd,
-}
-
-// Whether a scan stops at byte b.
-fn stops(stop: Stop, b: u8) -> bool
-    ensures { result ≡ stops_at stop b }
-{
-    match stop {
-        Stop::LineEnd => b == 10,
-        Stop::NotSpace => b != 32,
-        Stop::WordEnd => {
-            if b == 32 {
-                return true;
-            }
-            if b == 40 {
-                return true;
-            }
-            b == 41
-        }
-    }
-}
-
 // The place of the first byte at or after `from` at which a scan stops, or the length.
-pub fn scan_to(stop: Stop, s: &[u8], from: usize) -> usize
-    requires { from ≤ length s.now }
-    ensures { (result ≡ scan (stops_at stop) s.now from) × (from ≤ result) × (result ≤ length s.now) }
+pub fn scan_to<F: Fn(u8) -> bool>(s: &[u8], from: usize, stops: F) -> usize
+    requires within { from ≤ length s.now }
+    requires callable { F.IsAlwaysCallable stops }
+    ensures { Scanned (F.post stops) s.now from result }
 {
-    let mut i = from;
-    while i < s.len() {
-        if stops(stop, s[i]) {
-            return i;
+    for (i, b) in s[from..].iter().enumerate() {
+        if stops(*b) {
+            return from + i;
         }
-        i += 1;
     }
-    i
+    s.len()
+}
+
+// The place at which the word that stands at `from` ends: at a space, at a bracket, or at the end of the line.
+pub fn word_end(s: &[u8], from: usize) -> usize
+    requires { from ≤ length s.now }
+    ensures { (result ≡ scan ends_word s.now from) × (from ≤ result) × (result ≤ length s.now) }
+{
+    scan_to(s, from, |b| b == b' ' || b == b'(' || b == b')')
 }
 
 impl Place {
@@ -79,47 +61,40 @@ impl Place {
         Self { at: 0, passed: 0 }
     }
 
-    // Moves on by a whole line: the line here, and the place behind it.
-    pub fn next_line(self, s: &[u8]) -> Step
+    // Moves on by a whole line: the line here and the place behind it, or none at the end of the text.
+    pub fn next_line(self, s: &[u8]) -> Option<Line>
         requires { self.passed ≤ self.at }
         ensures { result ≡ step_at s.now self }
     {
-        let from = self.at;
-        let passed = self.passed;
-        if s.len() <= from {
-            return Step::End;
+        if s.len() <= self.at {
+            return None;
         }
-        let to = scan_to(Stop::LineEnd, s, from);
-        let mut at = to;
-        if to < s.len() {
-            at = to + 1;
-        }
-        Step::Line {
-            from,
+        let to = scan_to(s, self.at, |b| b == b'\n');
+        let at = s.len().min(to + 1);
+        Some(Line {
+            from: self.at,
             to,
             next: Place {
                 at,
-                passed: passed + 1,
+                passed: self.passed + 1,
             },
-        }
+        })
     }
 }
 
-// The token at a place of a line, spaces before it passed over.
-pub fn read_token(s: &[u8], at: usize) -> Token
+// The token at a place of a line, spaces before it passed over; none where no more than spaces is left.
+pub fn read_token(s: &[u8], at: usize) -> Option<Token>
     requires { at ≤ length s.now }
     ensures { result ≡ token_at s.now at }
 {
-    let i = scan_to(Stop::NotSpace, s, at);
-    if s.len() <= i {
-        return Token::Nothing;
-    }
-    if s[i] == 40 {
-        return Token::Open(i + 1);
-    }
-    if s[i] == 41 {
-        return Token::Shut(i + 1);
-    }
-    let to = scan_to(Stop::WordEnd, s, i);
-    Token::Word { from: i, to }
+    let i = scan_to(s, at, |b| b != b' ');
+    let first = s.get(i)?;
+    Some(match first {
+        b'(' => Token::Open(i + 1),
+        b')' => Token::Shut(i + 1),
+        _ => Token::Word {
+            from: i,
+            to: word_end(s, i),
+        },
+    })
 }

@@ -2,7 +2,7 @@
 use mathlib.Core.Path.{◌≡◌, refl, sym, ap, ◌∙◌}
 use mathlib.Core.Logic.{⊎_elim}
 use mathlib.Core.Bool.{Bool, true, false, false≢true, or-true}
-use mathlib.Core.Option.{none, some, none-ne-some, some-ne-none, some-injective}
+use Rattle.std.specs.Prelude.{None, Some}
 use mathlib.Core.List.Memᴰ
 use mathlib.Core.List.{List, [], ◌∷◌, Memᴰ}
 use Prim.Native.Nat.{ℕ}
@@ -10,6 +10,7 @@ use lib.Dec.{eqb}
 use borrow.Author.Tests.{eqb-true, eq-eqb}
 use Rattle.lists.specs.Lists.{Each, any_of, all_of, first_of}
 use Rattle.lists.proofs.Cases.{by_test, and_split, and_both}
+use Rattle.std.proofs.lemmas.Option.{none-some, same_Some}
 
 module _ {A : Type 0} where
   pub Each-map : {P Q : A → Type 0} (xs : List A) → ((x : A) → P x → Q x) → Each P xs → Each Q xs
@@ -38,20 +39,20 @@ module _ {A : Type 0} where
       and_both (f y) (all_of f ys) (h y (Memᴰ.head refl)) (all_of_of f ys (λ x m. h x (Memᴰ.tail m)))
 
   -- what `first_of` answers
-  pub first_of_some : (f : A → Bool) (xs : List A) (x : A) → first_of f xs ≡ some x → (Memᴰ x xs) × (f x ≡ true)
+  pub first_of_some : (f : A → Bool) (xs : List A) (x : A) → first_of f xs ≡ Some x → (Memᴰ x xs) × (f x ≡ true)
   unfolding first_of
-  first_of_some f [] x h = absurd (none-ne-some x h)
+  first_of_some f [] x h = absurd (none-some x h)
   first_of_some f (y ∷ ys) x h =
       by_test (f y)
-      (λ e. let q : x ≡ y = some-injective x y (sym (rw e at h)) in (Memᴰ.head q, ap f q ∙ e))
+      (λ e. let q : x ≡ y = same_Some x y (sym (rw e at h)) in (Memᴰ.head q, ap f q ∙ e))
       (λ e. let r = first_of_some f ys x (rw e at h) in (Memᴰ.tail r.0, r.1))
 
-  pub first_of_none : (f : A → Bool) (xs : List A) (x : A) → first_of f xs ≡ none → Memᴰ x xs → f x ≡ false
+  pub first_of_none : (f : A → Bool) (xs : List A) (x : A) → first_of f xs ≡ None → Memᴰ x xs → f x ≡ false
   unfolding first_of
   first_of_none f [] x h m = absurd (Memᴰ.not-nil m)
   first_of_none f (y ∷ ys) x h m =
       by_test (f y)
-      (λ e. absurd (some-ne-none y (rw e at h)))
+      (λ e. absurd (none-some y (sym (rw e at h))))
       (λ e. ⊎_elim (λ q. ap f q ∙ e) (λ m'. first_of_none f ys x (rw e at h) m') (Memᴰ.cases_cons m))
 
 -- a number is listed

@@ -1,7 +1,6 @@
 -- Statements and tests over all the elements of a list. The library has `Memᴰ x xs`, x is an element of xs; these stand beside it.
-use Rattle.std.specs.Prelude.{Bool, false, cond, ◌&&◌, ◌||◌}
+use Rattle.std.specs.Prelude.{Bool, false, cond, ◌&&◌, ◌||◌, Option, None, Some}
 use Rattle.std.proofs.Math.Bool.{true}
-use Rattle.std.proofs.Math.Option.{Option, none, some}
 use mathlib.Core.List.{List, [], ◌∷◌}
 
 module _ {A : Type 0} where
@@ -33,5 +32,5 @@ module _ {A : Type 0} where
 
   -- the first element that passes the test, if any does
   unfoldable pub first_of : (A → Bool) → List A → Option A
-  first_of f [] = none
-  first_of f (x ∷ xs) = cond (f x) (some x) (first_of f xs)
+  first_of f [] = None
+  first_of f (x ∷ xs) = cond (f x) (Some x) (first_of f xs)

@@ -3,7 +3,7 @@
 use Prim.Native.Nat.{ℕ, zero, suc, ◌+◌, ◌-◌, ◌≤◌, ◌<◌}
 use mathlib.Core.Path.{◌≡◌, refl, sym, ap, ◌∙◌}
 use mathlib.Core.Bool.{true}
-use mathlib.Core.Option.{Option, none, some, none-ne-some}
+use Rattle.std.specs.Prelude.{Option, None, Some}
 use mathlib.Core.List.{List, [], ◌∷◌, Memᴰ}
 use native.Mathlib.Omega.{arith}
 use borrow.Author.Tests.{eq-eqb}
@@ -26,6 +26,7 @@ use Rattle.packing.proofs.Fitting.{fits_placeable, placeable_fits, fits_within}
 use Rattle.packing.proofs.UpperBound.{rival_bound, table_at}
 use Rattle.packing.proofs.WalkIsRival.{Chosen, choice_none, choice_some, walk_walked, best_last_zero}
 use Rattle.packing.proofs.LowestNet.{choice_lowest}
+use Rattle.std.proofs.lemmas.Option.{none-some}
 
 module _ (job : Job) (earlier : List ℕ) (t : ℕ) where
   -- best(j)
@@ -64,11 +65,11 @@ module _ (job : Job) (earlier : List ℕ) (t : ℕ) where
   walk_skip (suc k) zero = let e : suc k ≡ suc k - 0 = omega arith in ap walk_last e
   walk_skip (suc k) (suc skip) = let e : k - skip ≡ suc k - suc skip = omega arith in walk_skip k skip ∙ ap walk_last e
 
-  last_none : (k : ℕ) → choice job earlier t k ≡ none → walk_last (suc k) ≡ walk_last k
+  last_none : (k : ℕ) → choice job earlier t k ≡ None → walk_last (suc k) ≡ walk_last k
   unfolding walk
   last_none k c = rw (c, walk)
 
-  last_some : (k : ℕ) (n : Net) → choice job earlier t k ≡ some n → walk_last (suc k) ≡ shortest_at job.board n (job.board.rows - k) ∷ walk job earlier t k (needed job.board n - 1)
+  last_some : (k : ℕ) (n : Net) → choice job earlier t k ≡ Some n → walk_last (suc k) ≡ shortest_at job.board n (job.board.rows - k) ∷ walk job earlier t k (needed job.board n - 1)
   unfolding walk
   last_some k n c = rw (c, walk)
 
@@ -76,14 +77,14 @@ module _ (job : Job) (earlier : List ℕ) (t : ℕ) where
   unfolding walk_from walk
   walk_end = let e : job.board.rows + 1 - (job.board.rows + 1) ≡ 0 = omega arith in ap walk_last e
 
-  pub walk_none : (j : ℕ) → 1 ≤ j → j ≤ job.board.rows → choice_here j ≡ none → walk_here j ≡ walk_here (j + 1)
+  pub walk_none : (j : ℕ) → 1 ≤ j → j ≤ job.board.rows → choice_here j ≡ None → walk_here j ≡ walk_here (j + 1)
   unfolding choice_at walk_from
   walk_none j l h c =
       let e : job.board.rows + 1 - j ≡ suc (job.board.rows - j) = omega arith in
       let e' : job.board.rows - j ≡ job.board.rows + 1 - (j + 1) = omega arith in
       ap walk_last e ∙ last_none (job.board.rows - j) c ∙ ap walk_last e'
 
-  pub walk_some : (j : ℕ) (n : Net) → 1 ≤ j → j ≤ job.board.rows → choice_here j ≡ some n → walk_here j ≡ shortest_at job.board n j ∷ walk_here (j + needed job.board n)
+  pub walk_some : (j : ℕ) (n : Net) → 1 ≤ j → j ≤ job.board.rows → choice_here j ≡ Some n → walk_here j ≡ shortest_at job.board n j ∷ walk_here (j + needed job.board n)
   unfolding choice_at walk_from
   walk_some j n l h c =
       let p = needed_pos job.board n in
@@ -163,11 +164,11 @@ module _ (job : Job) (earlier : List ℕ) (t : ℕ) where
           (eq-eqb (weight m + get_or (table job earlier t k) (needed job.board m - 1) 0) (best_last job earlier t (suc k))
           (omega (arith, r.reached, last_here, last_below m, ap (best_last job earlier t) e)))
 
-      best_rose : (n : Net) → choice_here j ≡ some n → best_here j ≡ best_here (j + 1) → ⊥
+      best_rose : (n : Net) → choice_here j ≡ Some n → best_here j ≡ best_here (j + 1) → ⊥
       unfolding choice_at choice
       best_rose n c q =
           let e : best_last job earlier t (suc k) ≡ best_last job earlier t k = sym last_here ∙ q ∙ last_next in
-          none-ne-some n (rw (eq-eqb (best_last job earlier t (suc k)) (best_last job earlier t k) e) at c)
+          none-some n (rw (eq-eqb (best_last job earlier t (suc k)) (best_last job earlier t k) e) at c)
 
       pub walk_step : WalkStep job earlier t best_here walk_here j
       unfolding choice_at

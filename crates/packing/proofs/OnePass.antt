@@ -3,7 +3,7 @@
 use Prim.Native.Nat.{ℕ, suc, ◌-◌, ◌≤◌, ◌<◌, max}
 use mathlib.Core.Path.{◌≡◌, refl, sym, ap, ap₂, subst}
 use mathlib.Core.Bool.{Bool, true, false, cond, ◌&&◌, and-false}
-use mathlib.Core.Option.{Option, none, some}
+use Rattle.std.specs.Prelude.{Option, None, Some}
 use mathlib.Core.List.{List, [], ◌∷◌}
 use native.Mathlib.Omega.{arith}
 use lib.Dec.{ltb, eqb}
@@ -28,7 +28,7 @@ module _ (job : Job) (earlier : List ℕ) (t : ℕ) where
   unfoldable pub one_pass : ℕ → List ℕ → List Net → PassPick → PassPick
   one_pass j below [] p = p
   one_pass j below (n ∷ ns) p =
-      one_pass j below ns (cond (fits_at job earlier t n j && ltb p.sum (sum_with job.board below n)) (record { sum = sum_with job.board below n; net = some n }) p)
+      one_pass j below ns (cond (fits_at job earlier t n j && ltb p.sum (sum_with job.board below n)) (record { sum = sum_with job.board below n; net = Some n }) p)
 
   module _ (j : ℕ) (below : List ℕ) where
     -- net n's shortest placement may stand with its top at row j
@@ -49,7 +49,7 @@ module _ (job : Job) (earlier : List ℕ) (t : ℕ) where
 
     -- the pick that takes net n
     abbrev pub took : Net → PassPick
-    took n = record { sum = sum_of_net n; net = some n }
+    took n = record { sum = sum_of_net n; net = Some n }
 
     -- what one net does to the pass and to best
     pub scan_take : (n : Net) (ns : List Net) (p : PassPick) → fits n ≡ true → ltb p.sum (sum_of_net n) ≡ true → passed_over (n ∷ ns) p ≡ passed_over ns (took n)
@@ -129,7 +129,7 @@ module _ (job : Job) (earlier : List ℕ) (t : ℕ) where
 
   -- the pass over all the nets at row H − k, from best(H − k + 1) and no net
   abbrev pub row_pick : ℕ → PassPick
-  row_pick k = one_pass (job.board.rows - k) (table job earlier t k) job.nets (record { sum = best_last job earlier t k; net = none })
+  row_pick k = one_pass (job.board.rows - k) (table job earlier t k) job.nets (record { sum = best_last job earlier t k; net = None })
 
   pub row_sum : (k : ℕ) → (row_pick k).sum ≡ best_last job earlier t (suc k)
   unfolding best_last
@@ -138,10 +138,10 @@ module _ (job : Job) (earlier : List ℕ) (t : ℕ) where
         arith,
         best_last_suc job earlier t k,
         best_at_rest job earlier t (job.board.rows - k) (table job earlier t k) job.nets,
-        scan_sum (job.board.rows - k) (table job earlier t k) job.nets (record { sum = best_last job earlier t k; net = none }) (omega arith),
+        scan_sum (job.board.rows - k) (table job earlier t k) job.nets (record { sum = best_last job earlier t k; net = None }) (omega arith),
       )
 
   pub row_net : (k : ℕ) → (row_pick k).net ≡ choice job earlier t k
   unfolding best_last choice reaches
   row_net k =
-      rw (row_sum k) at (scan_net (job.board.rows - k) (table job earlier t k) job.nets (record { sum = best_last job earlier t k; net = none }) (omega arith))
+      rw (row_sum k) at (scan_net (job.board.rows - k) (table job earlier t k) job.nets (record { sum = best_last job earlier t k; net = None }) (omega arith))

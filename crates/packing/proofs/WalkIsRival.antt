@@ -3,7 +3,7 @@ use Prim.Native.Nat.{ℕ, zero, suc, ◌+◌, ◌-◌, ◌≤◌, ◌<◌}
 use mathlib.Core.Path.{◌≡◌, refl, sym, ap, ◌∙◌}
 use mathlib.Core.Logic.{◌⊎◌, inl, inr, ⊎_elim}
 use mathlib.Core.Bool.{Bool, true, true≢false}
-use mathlib.Core.Option.{none, some, none-ne-some}
+use Rattle.std.specs.Prelude.{None, Some}
 use mathlib.Core.List.{List, [], ◌∷◌, Memᴰ}
 use native.Mathlib.Omega.{arith}
 use lib.Dec.{leb, eqb}
@@ -25,6 +25,7 @@ use Rattle.packing.specs.Best.{sum_with, best_at, table, best_last}
 use Rattle.packing.specs.Walk.{reaches, choice, walk}
 use Rattle.packing.proofs.Fitting.{fits_placeable, fits_within}
 use Rattle.packing.proofs.UpperBound.{best_last_suc, table_at}
+use Rattle.std.proofs.lemmas.Option.{none-some}
 
 module _ (job : Job) (earlier : List ℕ) (t : ℕ) where
   -- net n's shortest placement may stand with its top at row j
@@ -74,7 +75,7 @@ module _ (job : Job) (earlier : List ℕ) (t : ℕ) where
   reached_reaches k r = and_both _ _ r.fit (eq-eqb _ _ (r.sum ∙ sym (best_last_suc job earlier t k)))
 
   -- no net is chosen: best(j) = best(j + 1)
-  pub choice_none : (k : ℕ) → choice job earlier t k ≡ none → best_here (suc k) ≡ best_here k
+  pub choice_none : (k : ℕ) → choice job earlier t k ≡ None → best_here (suc k) ≡ best_here k
   unfolding choice best_last
   choice_none k h =
       by_test (eqb (best_here (suc k)) (best_here k))
@@ -83,11 +84,11 @@ module _ (job : Job) (earlier : List ℕ) (t : ℕ) where
       (λ r. absurd (true≢false (sym (reached_reaches k r) ∙ first_of_none (reaches job earlier t k) job.nets r.net (rw e at h) r.listed)))
       (best_at_source (job.board.rows - k) (table job earlier t k) job.nets))
 
-  pub choice_some : (k : ℕ) (n : Net) → choice job earlier t k ≡ some n → Chosen k n
+  pub choice_some : (k : ℕ) (n : Net) → choice job earlier t k ≡ Some n → Chosen k n
   unfolding choice reaches sum_with
   choice_some k n h =
       by_test (eqb (best_here (suc k)) (best_here k))
-      (λ e. absurd (none-ne-some n (rw e at h)))
+      (λ e. absurd (none-some n (rw e at h)))
       (λ e.
       let f = first_of_some (reaches job earlier t k) job.nets n (rw e at h) in
       let s = and_split (fits n (job.board.rows - k)) (eqb (sum_with job.board (table job earlier t k) n) (best_here (suc k))) f.1 in
@@ -113,7 +114,7 @@ module _ (job : Job) (earlier : List ℕ) (t : ℕ) where
       let e : k - skip ≡ suc k - suc skip = omega arith in
       record { rival = w.rival; from = Each-map ps (λ p h. omega arith) w.from; sum = w.sum ∙ ap best_here e }
 
-  none_here : (k : ℕ) {ps : List Placement} → choice job earlier t k ≡ none → Walked k 0 ps → Walked (suc k) 0 ps
+  none_here : (k : ℕ) {ps : List Placement} → choice job earlier t k ≡ None → Walked k 0 ps → Walked (suc k) 0 ps
   none_here k {ps} e w =
       let a : k - 0 ≡ k = omega arith in
       let b : suc k - 0 ≡ suc k = omega arith in

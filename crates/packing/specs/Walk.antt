@@ -1,6 +1,5 @@
 -- Document 01, "Choosing a track": the walk from row 1, and the wires that it takes.
-use Rattle.std.specs.Prelude.{ℕ, zero, suc, ◌+◌, ◌-◌, Bool, cond, ◌&&◌, List, [], ◌∷◌, eqb}
-use Rattle.std.proofs.Math.Option.{Option, none, some}
+use Rattle.std.specs.Prelude.{ℕ, zero, suc, ◌+◌, ◌-◌, Bool, cond, ◌&&◌, List, [], ◌∷◌, eqb, Option, None, Some}
 use Rattle.lists.specs.Lists.{first_of}
 use Rattle.board.specs.declared.Net.{Net}
 use Rattle.board.specs.Length.{needed}
@@ -18,7 +17,7 @@ module _ (job : Job) (earlier : List ℕ) (t : ℕ) where
   -- the choice for row H − k: none where best is that of the next row; otherwise the net of lowest number that reaches best (a job
   -- lists its nets by rising number)
   unfoldable pub choice : ℕ → Option Net
-  choice k = cond (eqb (best_last job earlier t (suc k)) (best_last job earlier t k)) none (first_of (reaches k) job.nets)
+  choice k = cond (eqb (best_last job earlier t (suc k)) (best_last job earlier t k)) None (first_of (reaches k) job.nets)
 
   -- the wires of the last k rows, of which the first `skip` are covered already
   unfoldable pub walk : ℕ → ℕ → List Placement
@@ -26,8 +25,8 @@ module _ (job : Job) (earlier : List ℕ) (t : ℕ) where
   walk (suc k) (suc skip) = walk k skip
   walk (suc k) zero =
       elim (choice k) [
-        | none ↦ walk k 0
-        | some n ↦ shortest_at job.board n (job.board.rows - k) ∷ walk k (needed job.board n - 1)
+        | None ↦ walk k 0
+        | Some n ↦ shortest_at job.board n (job.board.rows - k) ∷ walk k (needed job.board n - 1)
       ]
 
   -- the choice for row j

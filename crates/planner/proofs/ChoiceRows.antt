@@ -1,9 +1,9 @@
 -- The plan of a track by value, row by row: place j − 1 holds the index of the net chosen for row j, and no net has the index that stands
 -- for none. Assumes nothing.
-use Prim.Native.Nat.{ℕ, zero, suc, ◌-◌, ◌≤◌, ◌<◌}
+use Prim.Native.Nat.{ℕ, zero, suc, ◌+◌, ◌-◌, ◌≤◌, ◌<◌}
 use mathlib.Core.Path.{◌≡◌, refl, sym, ap, ◌∙◌}
 use mathlib.Core.Logic.{⊎_elim}
-use mathlib.Core.Option.{none, some}
+use Rattle.std.specs.Prelude.{None, Some}
 use mathlib.Core.List.Memᴰ
 use mathlib.Core.List.{List, [], ◌∷◌, Memᴰ}
 use native.Mathlib.Omega.{arith}
@@ -16,7 +16,7 @@ use Rattle.lists.proofs.Laws.{Each-at}
 use Rattle.board.specs.declared.Net.{Net}
 use Rattle.board.specs.Job.{Job}
 use Rattle.packing.specs.Walk.{choice_at}
-use Rattle.candidates.specs.Placed.{index_from}
+use Rattle.std.specs.List.{position_from}
 use Rattle.choice.specs.TrackPlans.{no_choice, index_of, choices_of, track_plan_of}
 
 -- has the number of net n
@@ -28,37 +28,37 @@ pub record IndexOf (ns : List Net) (n : Net) (i : ℕ) : Type 0 where
   pub below : i < length ns
   pub there : (d : Net) → get_or ns i d ≡ n
 
-index_next : (m n : Net) (ns : List Net) (i j : ℕ) → suc i ≤ j → IndexOf ns n (j - suc i) → IndexOf (m ∷ ns) n (j - i)
-index_next m n ns i j h r =
-    let e : j - i ≡ suc (j - suc i) = omega arith in
-    rw e (record { below = omega (arith, r.below); there = r.there })
-
--- a net's index by its number, where the first net of the list has index i
-pub index_from_lem : (ns : List Net) (n : Net) (i : ℕ) → EachPair (λ a b. a.number < b.number) ns → Memᴰ n ns →
-    (i ≤ index_from (numbered n) i ns) × IndexOf ns n (index_from (numbered n) i ns - i)
-unfolding index_from
+-- a net is found by its number, where the first net of the list has index i
+index_from_lem : (ns : List Net) (n : Net) (i : ℕ) → EachPair (λ a b. a.number < b.number) ns → Memᴰ n ns →
+    (k : ℕ) × (position_from (numbered n) i ns ≡ Some (i + k)) × IndexOf ns n k
 index_from_lem [] n i rise m = absurd (Memᴰ.not-nil m)
 index_from_lem (x ∷ xs) n i rise m =
     ⊎_elim
     (λ (q : n ≡ x).
-    let e : i - i ≡ 0 = omega arith in
-    rw (eq-eqb x.number n.number (sym (ap (λ (y : Net). y.number) q)), e)
-    (omega arith, record { below = omega arith; there = λ d. sym q }))
+    let e : i ≡ i + 0 = omega arith in (
+      0,
+      rw (eq-eqb x.number n.number (sym (ap (λ (y : Net). y.number) q))) (ap (λ (k : ℕ). Some k) e),
+      record { below = omega arith; there = λ d. sym q },
+    ))
     (λ m'.
     let l : x.number < n.number = Each-at (λ y. x.number < y.number) xs n rise.0 m' in
-    let more = index_from_lem xs n (suc i) rise.1 m' in
-    rw (ne_eqb x.number n.number (λ (q : x.number ≡ n.number). omega arith))
-    (omega (arith, more.0), index_next x n xs i (index_from (numbered n) (suc i) xs) more.0 more.1))
+    let more = index_from_lem xs n (i + 1) rise.1 m' in
+    let e : i + 1 + more.0 ≡ i + suc more.0 = omega arith in (
+      suc more.0,
+      rw (ne_eqb x.number n.number (λ (q : x.number ≡ n.number). omega arith)) (more.1 ∙ ap (λ (k : ℕ). Some k) e),
+      record { below = omega (arith, more.2.below); there = more.2.there },
+    ))
     (Memᴰ.cases_cons m)
 
 pub index_of_lem : (job : Job) (n : Net) → EachPair (λ a b. a.number < b.number) job.nets → Memᴰ n job.nets →
-    IndexOf job.nets n (index_of job (some n))
+    IndexOf job.nets n (index_of job (Some n))
 unfolding index_of
 index_of_lem job n rise m =
-    let e : index_from (numbered n) 0 job.nets - 0 ≡ index_from (numbered n) 0 job.nets = omega arith in
-    rw e at (index_from_lem job.nets n 0 rise m).1
+    let found = index_from_lem job.nets n 0 rise m in
+    let e : 0 + found.0 ≡ found.0 = omega arith in
+    rw (found.1, e) found.2
 
-pub index_none : (job : Job) → index_of job none ≡ no_choice
+pub index_none : (job : Job) → index_of job None ≡ no_choice
 unfolding index_of
 index_none job = refl
 

@@ -3,7 +3,7 @@
 use Prim.Native.Nat.{ℕ, zero, suc, ◌<◌}
 use mathlib.Core.Path.{◌≡◌, refl, sym, ap, ◌∙◌}
 use mathlib.Core.Bool.{true, false, cond}
-use mathlib.Core.Option.{Option, none, some}
+use Rattle.std.specs.Prelude.{Option, None, Some}
 use mathlib.Core.List.{List, [], ◌∷◌, ◌++◌, map, Memᴰ}
 use native.Mathlib.Omega.{arith}
 use lib.Dec.{eqb}
@@ -24,13 +24,13 @@ index_mem (x ∷ xs) n zero r = Memᴰ.head (sym (r.there x))
 index_mem (x ∷ xs) n (suc i) r = Memᴰ.tail (index_mem xs n i (record { below = omega (arith, r.below); there = r.there }))
 
 -- no wire has number k
-pub wire_none : (k : ℕ) (ps : List Placement) → Each (λ p. k ≡ p.net.number → ⊥) ps → wire_with k ps ≡ none
+pub wire_none : (k : ℕ) (ps : List Placement) → Each (λ p. k ≡ p.net.number → ⊥) ps → wire_with k ps ≡ None
 unfolding wire_with first_of
 wire_none k [] h = refl
 wire_none k (p ∷ ps) h = rw (ne_eqb p.net.number k (λ q. h.0 (sym q))) (wire_none k ps h.1)
 
 -- the first wire has number k, or not
-pub wire_here : (k : ℕ) (p : Placement) (ps : List Placement) → eqb p.net.number k ≡ true → wire_with k (p ∷ ps) ≡ some p
+pub wire_here : (k : ℕ) (p : Placement) (ps : List Placement) → eqb p.net.number k ≡ true → wire_with k (p ∷ ps) ≡ Some p
 unfolding wire_with first_of
 wire_here k p ps e = rw e
 
@@ -62,8 +62,8 @@ module _ {B : Type 0} where
 
   -- the entry of a net: that of its wire, or else the one of before
   abbrev pub entry_or : (Placement → B) → B → Option Placement → B
-  entry_or entry x none = x
-  entry_or entry x (some p) = entry p
+  entry_or entry x None = x
+  entry_or entry x (Some p) = entry p
 
   abbrev pub with_wires : (Placement → B) → List Placement → (Net → B) → Net → B
   with_wires entry ps f m = entry_or entry (f m) (wire_with m.number ps)
@@ -72,7 +72,7 @@ module _ {B : Type 0} where
       with_wires entry ps (given p.net.number (entry p) f) m ≡ with_wires entry (p ∷ ps) f m
   with_first entry p ps f m h =
       by_test (eqb p.net.number m.number)
-      (λ e. let z : wire_with m.number ps ≡ none = wire_none m.number ps (rw (eqb-true p.net.number m.number e) at h) in
+      (λ e. let z : wire_with m.number ps ≡ None = wire_none m.number ps (rw (eqb-true p.net.number m.number e) at h) in
       rw (wire_here m.number p ps e, z, e))
       (λ e. rw (wire_later m.number p ps e, e))
 
@@ -86,12 +86,3 @@ module _ {B : Type 0} where
         ap (marked at entry ps) (set_net f ns rest p.net (at p.net) (entry p) rise r.0) ∙
         marked_all ps g r.1 d.1 ∙
         ap (λ l. l ++ rest) (map_same (with_wires entry ps g) (with_wires entry (p ∷ ps) f) ns (λ m _. with_first entry p ps f m d.0))
-
--- what is made of an entry is made of the wire's and of the one of before
-entry_or_map : {A B : Type 0} (g : A → B) (entry : Placement → A) (x : A) (o : Option Placement) → entry_or (λ p. g (entry p)) (g x) o ≡ g (entry_or entry x o)
-entry_or_map g entry x none = refl
-entry_or_map g entry x (some p) = refl
-
-pub with_map : {A B : Type 0} (g : A → B) (entry : Placement → A) (ps : List Placement) (f : Net → A) (n : Net) →
-    with_wires (λ p. g (entry p)) ps (λ m. g (f m)) n ≡ g (with_wires entry ps f n)
-with_map g entry ps f n = entry_or_map g entry (f n) (wire_with n.number ps)

@@ -18,8 +18,9 @@ use Rattle.planning.specs.Plan.{filled_track, plan_of}
 use Rattle.planning.specs.Loose.{without, loose_of}
 use Rattle.planning.proofs.PlanUnbeaten.{all_allowed, plan_unbeaten}
 use Rattle.planning.proofs.Balance.{sums_add_up}
-use Rattle.planner.specs.declared.NetPlan.{NetPlan}
-use Rattle.planner.specs.JobPlans.{net_plan_of, no_plan, stored_plan, job_plan_of}
+use Rattle.std.specs.Prelude.{Option, None}
+use Rattle.candidates.specs.declared.Wired.{Wired}
+use Rattle.planner.specs.JobPlans.{net_plan_of, stored_plan, job_plan_of}
 use Rattle.planner.specs.Progressed.{on_first}
 use Rattle.planner.specs.Chosen.{loose_from, loose_nets, BestPlan}
 use Rattle.planner.proofs.Stands.{on_stand}
@@ -27,7 +28,7 @@ use Rattle.planning.proofs.FirstTracks.{plan_at}
 use Rattle.planner.proofs.TracksOfPlan.{tracks_of_plan}
 
 -- the nets that stand on no track of a plan are its loose nets
-loose_from_lem : (plan : List FilledTrack) (ns : List Net) (rest : List NetPlan) → loose_from ns (map (net_plan_of plan) ns ++ rest) ≡ without (numbers_on plan) ns
+loose_from_lem : (plan : List FilledTrack) (ns : List Net) (rest : List (Option Wired)) → loose_from ns (map (net_plan_of plan) ns ++ rest) ≡ without (numbers_on plan) ns
 unfolding loose_from without
 loose_from_lem plan [] rest = refl
 loose_from_lem plan (n ∷ ns) rest =
@@ -38,7 +39,7 @@ loose_from_lem plan (n ∷ ns) rest =
 module _ (job : Job) where
   pub loose_of_plan : loose_nets job (job_plan_of job) ≡ loose_of job (plan_of job)
   unfolding loose_nets loose_of job_plan_of stored_plan
-  loose_of_plan = loose_from_lem (plan_of job) job.nets (replicate (512 - length job.nets) no_plan)
+  loose_of_plan = loose_from_lem (plan_of job) job.nets (replicate (512 - length job.nets) None)
 
   module _ (a : AcceptedJob job) where
     plan_shortest : (i : ℕ) → i < job.board.tracks → Each (λ p. p.shape ≡ shortest job.board p.net) (get_or (plan_of job) i empty_track).wires

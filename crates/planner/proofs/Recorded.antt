@@ -2,7 +2,7 @@
 -- track t + 1. Assumes nothing.
 use Prim.Native.Nat.{ℕ, suc, ◌+◌, ◌-◌, ◌<◌}
 use mathlib.Core.Path.{◌≡◌, refl, sym, ap, ◌∙◌}
-use mathlib.Core.Option.{some}
+use Rattle.std.specs.Prelude.{Option, None, Some}
 use mathlib.Core.List.{List, [], ◌∷◌, ◌++◌, map, Memᴰ}
 use native.Mathlib.Omega.{arith}
 use lib.ListN.{length, set, replicate}
@@ -24,12 +24,12 @@ use Rattle.planning.specs.Plan.{filled_track}
 use Rattle.planning.proofs.PlanUnbeaten.{all_allowed, track_optimal}
 use Rattle.planning.proofs.Balance.{once}
 use Rattle.choice.specs.TrackPlans.{index_of}
-use Rattle.planner.specs.declared.Stand.{Stand}
-use Rattle.planner.specs.JobPlans.{wire_with, stand_from, no_plan, stored_plan}
-use Rattle.planner.specs.Progressed.{track_of, progress_of, first_tracks, on_first, progress_to}
+use Rattle.candidates.specs.declared.Wired.{Wired}
+use Rattle.planner.specs.JobPlans.{wire_with, wired, stand_from, stored_plan}
+use Rattle.planner.specs.Progressed.{first_tracks, on_first, progress_to}
 use Rattle.planner.proofs.ChoiceRows.{IndexOf, index_of_lem}
-use Rattle.planner.proofs.Marks.{marked, with_wires, marked_all, with_map}
-use Rattle.planner.proofs.Stands.{wired, wire_found, stand_kept, stand_new}
+use Rattle.planner.proofs.Marks.{marked, with_wires, marked_all}
+use Rattle.planner.proofs.Stands.{wire_found, stand_kept, stand_new}
 use Rattle.planning.proofs.FirstTracks.{first_length, first_next}
 
 -- the sum of one more track
@@ -40,7 +40,7 @@ sums_put (x ∷ xs) tr room = ap (λ l. x.sum ∷ l) (sums_put xs tr room)
 
 -- where a net's wire is stored: at the net's index
 abbrev pub place : Job → Net → ℕ
-place job n = index_of job (some n)
+place job n = index_of job (Some n)
 
 module _ (job : Job) (a : AcceptedJob job) where
   -- the wires of a track: a rival sequence, of nets that differ and stand on no earlier track
@@ -64,7 +64,7 @@ module _ (job : Job) (a : AcceptedJob job) where
     pub tops_differ : EachPair (λ p q. p.top ≡ q.top → ⊥) ws
     tops_differ = EachPair-both ws (λ p q _ _ l (e : p.top ≡ q.top). omega arith) wires_rival.placeable wires_rival.rising
 
-    pub wires_fresh : (k : ℕ) (p : Placement) → wire_with k ws ≡ some p → Memᴰ k earlier → ⊥
+    pub wires_fresh : (k : ℕ) (p : Placement) → wire_with k ws ≡ Some p → Memᴰ k earlier → ⊥
     wires_fresh k p e m =
         let f = wire_found k ws p e in
         let v = Each-at (Placeable job earlier t) ws p wires_rival.placeable f.listed in
@@ -80,36 +80,25 @@ module _ (job : Job) (a : AcceptedJob job) where
     abbrev wires : List Placement
     wires = wires_of job (on_first job t) (suc t)
 
-    next_stand : (n : Net) → with_wires (wired (suc t)) wires (λ m. stand_from 1 trs m.number) n ≡ stand_from 1 (trs ++ (new ∷ [])) n.number
+    next_stand : (n : Net) → with_wires (λ p. Some (wired (suc t) p)) wires (λ m. stand_from 1 trs m.number) n ≡ stand_from 1 (trs ++ (new ∷ [])) n.number
     unfolding filled_track
     next_stand n =
         by_option (wire_with n.number wires)
         (λ e. rw e (sym (stand_kept 1 n.number trs new e)))
         (λ p e.
         let l : 1 + length trs ≡ suc t = omega (arith, first_length job t (omega arith)) in
-        rw e (sym (stand_new 1 n.number trs new p (wires_fresh (on_first job t) (suc t) n.number p e) e ∙ ap (λ u. wired u p) l)))
+        rw e (sym (stand_new 1 n.number trs new p (wires_fresh (on_first job t) (suc t) n.number p e) e ∙ ap (λ u. Some (wired u p)) l)))
 
-    -- an array that holds something of each net's stand, after track t + 1
-    module _ {B : Type 0} (of : Stand → B) (rest : List B) where
-      of_next : marked (place job) (λ p. of (wired (suc t) p)) wires (map (λ n. of (stand_from 1 trs n.number)) job.nets ++ rest) ≡
-          map (λ n. of (stand_from 1 (first_tracks job (suc t)) n.number)) job.nets ++ rest
-      of_next =
-          marked_all (place job) (λ p. of (wired (suc t) p)) job.nets a.numbers_rise rest wires (λ n. of (stand_from 1 trs n.number))
-          (wires_indexed (on_first job t) (suc t)) (wires_differ (on_first job t) (suc t)) ∙
-          ap (λ l. l ++ rest) (map_same _ _ job.nets (λ n _.
-          with_map of (wired (suc t)) wires (λ m. stand_from 1 trs m.number) n ∙ ap of (next_stand n) ∙
-          ap (λ l. of (stand_from 1 l n.number)) (sym (first_next job t h))))
-
-    pub nets_next : marked (place job) (λ p. record { stand = wired (suc t) p }) wires (progress_to job t).nets ≡ (progress_to job (suc t)).nets
-    unfolding progress_of stored_plan
-    nets_next = of_next (λ s. record { stand = s }) (replicate (512 - length job.nets) no_plan)
-
-    pub placed_next : marked (place job) (λ p. suc t) wires (progress_to job t).placed ≡ (progress_to job (suc t)).placed
-    unfolding progress_of
-    placed_next = of_next track_of (replicate (512 - length job.nets) 0)
+    pub nets_next : marked (place job) (λ p. Some (wired (suc t) p)) wires (progress_to job t).nets ≡ (progress_to job (suc t)).nets
+    unfolding stored_plan
+    nets_next =
+        let rest : List (Option Wired) = replicate (512 - length job.nets) None in
+        marked_all (place job) (λ p. Some (wired (suc t) p)) job.nets a.numbers_rise rest wires (λ n. stand_from 1 trs n.number)
+        (wires_indexed (on_first job t) (suc t)) (wires_differ (on_first job t) (suc t)) ∙
+        ap (λ l. l ++ rest) (map_same _ _ job.nets (λ n _. next_stand n ∙ ap (λ l. stand_from 1 l n.number) (sym (first_next job t h))))
 
     pub sums_next : set (progress_to job t).sums t (best job (on_first job t) (suc t) 1) ≡ (progress_to job (suc t)).sums
-    unfolding progress_of stored_plan filled_track
+    unfolding stored_plan filled_track
     sums_next =
         let n = first_length job t (omega arith) in
         let n' = first_length job (suc t) (omega arith) in

@@ -2,7 +2,7 @@
 use Prim.Native.Nat.{ℕ, zero, suc, ◌+◌, ◌-◌, ◌≤◌, ◌<◌}
 use mathlib.Core.Path.{◌≡◌, refl, ap, ◌∙◌}
 use mathlib.Core.Bool.{true, false}
-use mathlib.Core.Option.{Option, none, some}
+use Rattle.std.specs.Prelude.{Option, None, Some}
 use mathlib.Core.List.{List, [], ◌∷◌, ◌++◌}
 use native.Mathlib.Omega.{arith}
 use lib.Dec.{eqb}
@@ -17,10 +17,10 @@ abbrev pub top_at : ℕ → List Placement → Option Placement
 top_at row ps = first_of (λ p. eqb p.top row) ps
 
 abbrev pub list_of : Option Placement → List Placement
-list_of none = []
-list_of (some p) = p ∷ []
+list_of None = []
+list_of (Some p) = p ∷ []
 
-top_here : (row : ℕ) (p : Placement) (ps : List Placement) → eqb p.top row ≡ true → top_at row (p ∷ ps) ≡ some p
+top_here : (row : ℕ) (p : Placement) (ps : List Placement) → eqb p.top row ≡ true → top_at row (p ∷ ps) ≡ Some p
 unfolding first_of
 top_here row p ps e = rw e
 
@@ -28,7 +28,7 @@ top_later : (row : ℕ) (p : Placement) (ps : List Placement) → eqb p.top row 
 unfolding first_of
 top_later row p ps e = rw e
 
-top_none : (row : ℕ) (ps : List Placement) → Each (λ p. row < p.top) ps → top_at row ps ≡ none
+top_none : (row : ℕ) (ps : List Placement) → Each (λ p. row < p.top) ps → top_at row ps ≡ None
 unfolding first_of
 top_none row [] a = refl
 top_none row (p ∷ ps) a = top_later row p ps (ne_eqb p.top row (λ e. omega (arith, a.0, e))) ∙ top_none row ps a.1
@@ -55,7 +55,7 @@ module _ (rows : ℕ) where
   unfolding by_row
   by_row_some k p ps e = rw (top_here (rows - k) p ps e)
 
-  by_row_none : (k : ℕ) (ps : List Placement) → top_at (rows - k) ps ≡ none → by_row (suc k) ps ≡ by_row k ps
+  by_row_none : (k : ℕ) (ps : List Placement) → top_at (rows - k) ps ≡ None → by_row (suc k) ps ≡ by_row k ps
   unfolding by_row
   by_row_none k ps e = rw e
 

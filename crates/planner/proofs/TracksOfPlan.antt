@@ -3,7 +3,7 @@ use Prim.Native.Nat.{ℕ, zero, suc, ◌+◌, ◌-◌, ◌<◌}
 use mathlib.Core.Path.{◌≡◌, refl, sym, ap, ap₂, ◌∙◌}
 use mathlib.Core.Logic.{⊎_elim}
 use mathlib.Core.Bool.{true≢false}
-use mathlib.Core.Option.{none, some}
+use Rattle.std.specs.Prelude.{Option, None, Some}
 use mathlib.Core.List.Memᴰ
 use mathlib.Core.List.{List, [], ◌∷◌, ◌++◌, map, Memᴰ}
 use native.Mathlib.Omega.{arith}
@@ -23,21 +23,19 @@ use Rattle.board.specs.Unbeaten.{FilledTrack, empty_track}
 use Rattle.board.specs.Accepted.{AcceptedJob}
 use Rattle.packing.specs.Walk.{wires_of}
 use Rattle.planning.specs.Plan.{filled_track, plan_of}
-use Rattle.planner.specs.declared.Stand.{Stand}
-use Rattle.planner.specs.declared.Stand.TheVariants.{Loose, Wired}
-use Rattle.planner.specs.declared.NetPlan.{NetPlan}
-use Rattle.planner.specs.JobPlans.{wire_with, stand_from, net_plan_of, no_plan, stored_plan, job_plan_of}
-use Rattle.planner.specs.Progressed.{track_of, on_first}
+use Rattle.candidates.specs.declared.Wired.{Wired}
+use Rattle.planner.specs.JobPlans.{wire_with, wired, stand_from, net_plan_of, stored_plan, job_plan_of}
+use Rattle.planner.specs.Progressed.{on_first}
 use Rattle.planner.specs.Chosen.{stands_at, row_of, last_rows, tracks_from, tracks_of}
 use Rattle.planner.proofs.Marks.{wire_here, wire_later}
-use Rattle.planner.proofs.Stands.{wired, WireFound, wire_found, stand_at, stand_other}
+use Rattle.planner.proofs.Stands.{track_of, WireFound, wire_found, stand_at, stand_other}
 use Rattle.planning.proofs.FirstTracks.{plan_length, plan_at}
 use Rattle.planner.proofs.Recorded.{wires_rival, wires_differ, tops_differ, wires_fresh}
 use Rattle.planner.proofs.RowByRow.{top_at, list_of, by_row, by_row_lem}
 
 -- ---- lists of placements
 -- a wire is found by its number, where numbers differ
-wire_self : (ps : List Placement) (p : Placement) → EachPair (λ a b. a.net.number ≡ b.net.number → ⊥) ps → Memᴰ p ps → wire_with p.net.number ps ≡ some p
+wire_self : (ps : List Placement) (p : Placement) → EachPair (λ a b. a.net.number ≡ b.net.number → ⊥) ps → Memᴰ p ps → wire_with p.net.number ps ≡ Some p
 wire_self [] p d m = absurd (Memᴰ.not-nil m)
 wire_self (x ∷ xs) p d m =
     ⊎_elim
@@ -49,38 +47,38 @@ wire_self (x ∷ xs) p d m =
 
 -- ---- one net
 -- a net that does not stand on track t
-elsewhere : (t row : ℕ) (n : Net) (s : Stand) → (track_of s ≡ t → ⊥) → stands_at t row n s ≡ []
-elsewhere t row n Loose h = refl
-elsewhere t row n (Wired u top shape) h = rw (ne_eqb u.0 t h)
+elsewhere : (t row : ℕ) (n : Net) (s : Option Wired) → (track_of s ≡ t → ⊥) → stands_at t row n s ≡ []
+elsewhere t row n None h = refl
+elsewhere t row n (Some w) h = rw (ne_eqb w.track.0 t h)
 
 -- a net with its wire on track t
-with_top : (t row : ℕ) (p : Placement) → p.top ≡ row → stands_at t row p.net (wired t p) ≡ p ∷ []
+with_top : (t row : ℕ) (p : Placement) → p.top ≡ row → stands_at t row p.net (Some (wired t p)) ≡ p ∷ []
 with_top t row p e = rw (← e, eq-eqb t t refl, eq-eqb p.top p.top refl)
 
-other_top : (t row : ℕ) (n : Net) (p : Placement) → (p.top ≡ row → ⊥) → stands_at t row n (wired t p) ≡ []
+other_top : (t row : ℕ) (n : Net) (p : Placement) → (p.top ≡ row → ⊥) → stands_at t row n (Some (wired t p)) ≡ []
 other_top t row n p e = rw (eq-eqb t t refl, ne_eqb p.top row e)
 
 -- ---- one row
-module _ (t row : ℕ) (f : Net → NetPlan) (rest : List NetPlan) where
-  row_empty : (ns : List Net) → ((n : Net) → Memᴰ n ns → stands_at t row n (f n).stand ≡ []) → row_of t row ns (map f ns ++ rest) ≡ []
+module _ (t row : ℕ) (f : Net → Option Wired) (rest : List (Option Wired)) where
+  row_empty : (ns : List Net) → ((n : Net) → Memᴰ n ns → stands_at t row n (f n) ≡ []) → row_of t row ns (map f ns ++ rest) ≡ []
   unfolding row_of
   row_empty [] h = refl
   row_empty (n ∷ ns) h = rw (h n (Memᴰ.head refl)) (row_empty ns (λ m i. h m (Memᴰ.tail i)))
 
-  row_one : (ns : List Net) (p : Placement) → EachPair (λ a b. a.number < b.number) ns → Memᴰ p.net ns → stands_at t row p.net (f p.net).stand ≡ p ∷ [] →
-      ((n : Net) → Memᴰ n ns → (n.number ≡ p.net.number → ⊥) → stands_at t row n (f n).stand ≡ []) → row_of t row ns (map f ns ++ rest) ≡ p ∷ []
+  row_one : (ns : List Net) (p : Placement) → EachPair (λ a b. a.number < b.number) ns → Memᴰ p.net ns → stands_at t row p.net (f p.net) ≡ p ∷ [] →
+      ((n : Net) → Memᴰ n ns → (n.number ≡ p.net.number → ⊥) → stands_at t row n (f n) ≡ []) → row_of t row ns (map f ns ++ rest) ≡ p ∷ []
   unfolding row_of
   row_one [] p rise m e h = absurd (Memᴰ.not-nil m)
   row_one (n ∷ ns) p rise m e h =
       ⊎_elim
       (λ (q : p.net ≡ n).
-      let e' : stands_at t row n (f n).stand ≡ p ∷ [] = sym (ap (λ x. stands_at t row x (f x).stand) q) ∙ e in
+      let e' : stands_at t row n (f n) ≡ p ∷ [] = sym (ap (λ x. stands_at t row x (f x)) q) ∙ e in
       rw e' (ap (λ l. p ∷ l) (row_empty ns (λ x i.
       let l = Each-at (λ z. n.number < z.number) ns x rise.0 i in
       h x (Memᴰ.tail i) (λ z. omega (arith, z, ap (λ (y : Net). y.number) q))))))
       (λ m'.
       let l = Each-at (λ z. n.number < z.number) ns p.net rise.0 m' in
-      let e' : stands_at t row n (f n).stand ≡ [] = h n (Memᴰ.head refl) (λ z. omega arith) in
+      let e' : stands_at t row n (f n) ≡ [] = h n (Memᴰ.head refl) (λ z. omega arith) in
       rw e' (row_one ns p rise.1 m' e (λ x i. h x (Memᴰ.tail i))))
       (Memᴰ.cases_cons m)
 
@@ -90,7 +88,7 @@ module _ (job : Job) (a : AcceptedJob job) where
     abbrev ws : List Placement
     ws = wires_of job (on_first job i) (suc i)
 
-    abbrev stand : Net → Stand
+    abbrev stand : Net → Option Wired
     stand n = stand_from 1 (plan_of job) n.number
 
     wires_at : (get_or (plan_of job) i empty_track).wires ≡ ws
@@ -98,15 +96,15 @@ module _ (job : Job) (a : AcceptedJob job) where
     wires_at = ap (λ (x : FilledTrack). x.wires) (plan_at job i empty_track h)
 
     -- a net that has a wire on the track, and one that has none
-    on_track : (k : ℕ) (p : Placement) → wire_with k ws ≡ some p → stand_from 1 (plan_of job) k ≡ wired (suc i) p
+    on_track : (k : ℕ) (p : Placement) → wire_with k ws ≡ Some p → stand_from 1 (plan_of job) k ≡ Some (wired (suc i) p)
     on_track k p e =
         let s : 1 + i ≡ suc i = omega arith in
-        let e' : wire_with k (get_or (plan_of job) i empty_track).wires ≡ some p = rw wires_at e in
-        stand_at 1 k (plan_of job) i p (wires_fresh job a (on_first job i) (suc i) k p e) e' ∙ ap (λ u. wired u p) s
+        let e' : wire_with k (get_or (plan_of job) i empty_track).wires ≡ Some p = rw wires_at e in
+        stand_at 1 k (plan_of job) i p (wires_fresh job a (on_first job i) (suc i) k p e) e' ∙ ap (λ u. Some (wired u p)) s
 
-    off_track : (k : ℕ) → wire_with k ws ≡ none → track_of (stand_from 1 (plan_of job) k) ≡ suc i → ⊥
+    off_track : (k : ℕ) → wire_with k ws ≡ None → track_of (stand_from 1 (plan_of job) k) ≡ suc i → ⊥
     off_track k e q =
-        let e' : wire_with k (get_or (plan_of job) i empty_track).wires ≡ none = rw wires_at e in
+        let e' : wire_with k (get_or (plan_of job) i empty_track).wires ≡ None = rw wires_at e in
         stand_other 1 k (plan_of job) i (omega arith) e' (omega arith)
 
     -- a net stands at a row only by a wire whose top is there
@@ -117,10 +115,10 @@ module _ (job : Job) (a : AcceptedJob job) where
           (λ e. elsewhere (suc i) row n (stand n) (off_track n.number e))
           (λ p e. rw (on_track n.number p e) (other_top (suc i) row n p (g p (wire_found n.number ws p e))))
 
-      abbrev f : Net → NetPlan
+      abbrev f : Net → Option Wired
       f n = net_plan_of (plan_of job) n
 
-      pub row_is : (rest : List NetPlan) → row_of (suc i) row job.nets (map f job.nets ++ rest) ≡ list_of (top_at row ws)
+      pub row_is : (rest : List (Option Wired)) → row_of (suc i) row job.nets (map f job.nets ++ rest) ≡ list_of (top_at row ws)
       row_is rest =
           let r = wires_rival job a (on_first job i) (suc i) in
           by_option (top_at row ws)
@@ -139,7 +137,7 @@ module _ (job : Job) (a : AcceptedJob job) where
     rows_are : (k : ℕ) → last_rows job (job_plan_of job) (suc i) k ≡ by_row job.board.rows k ws
     unfolding last_rows by_row job_plan_of stored_plan
     rows_are zero = refl
-    rows_are (suc k) = ap₂ ◌++◌ (row_is (job.board.rows - k) (replicate (512 - length job.nets) no_plan)) (rows_are k)
+    rows_are (suc k) = ap₂ ◌++◌ (row_is (job.board.rows - k) (replicate (512 - length job.nets) None)) (rows_are k)
 
     pub wires_back : last_rows job (job_plan_of job) (suc i) job.board.rows ≡ ws
     wires_back =

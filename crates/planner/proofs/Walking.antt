@@ -1,7 +1,7 @@
 -- The walk over the plan of a track by value takes the wires of the model's walk: what the loop over the rows keeps. Assumes nothing.
 use Prim.Native.Nat.{ℕ, suc, ◌+◌, ◌-◌, ◌≤◌, ◌<◌}
 use mathlib.Core.Path.{◌≡◌, refl, sym, ap, ap₂, ◌∙◌}
-use mathlib.Core.Option.{none, some}
+use Rattle.std.specs.Prelude.{None, Some}
 use mathlib.Core.List.{List, []}
 use native.Mathlib.Omega.{arith}
 use lib.ListN.{length, get_or, set, take, length-take}
@@ -21,18 +21,17 @@ use Rattle.packing.proofs.WalkIsRival.{choice_some}
 use Rattle.packing.proofs.ByRow.{walk_end, walk_none, walk_some}
 use Rattle.choice.specs.declared.TrackPlan.{TrackPlan}
 use Rattle.choice.specs.TrackPlans.{no_choice, index_of, track_plan_of}
-use Rattle.planner.specs.declared.Stand.TheVariants.{Wired}
-use Rattle.planner.specs.declared.Progress.{Progress}
+use Rattle.planner.specs.declared.JobPlan.{JobPlan}
 use Rattle.planner.specs.Progressed.{OnTurn, on_first, progress_to, track_plan}
 use Rattle.planner.proofs.ChoiceRows.{IndexOf, index_of_lem, index_none, choice_row}
 use Rattle.planner.proofs.Marks.{marked}
-use Rattle.planner.proofs.Stands.{wired}
-use Rattle.planner.proofs.Recorded.{place, nets_next, placed_next, sums_next}
+use Rattle.planner.specs.JobPlans.{wired}
+use Rattle.planner.proofs.Recorded.{place, nets_next, sums_next}
 
 -- net n, with index i, is chosen for row j of track t, with the nets of the tracks before it held
 pub record Taken (s : StoredJob) (t j i : ℕ) : Type 0 where
   pub net : Net
-  pub chosen : choice_at (job_of s) (on_first (job_of s) (t - 1)) t j ≡ some net
+  pub chosen : choice_at (job_of s) (on_first (job_of s) (t - 1)) t j ≡ Some net
   pub index : i ≡ place (job_of s) net
   pub below : i < length (job_of s).nets
   pub stored : (d : Net) → get_or s.nets i d ≡ net
@@ -56,7 +55,7 @@ module _ (s : StoredJob) (a : AcceptedJob (job_of s)) (t : ℕ) (plan : TrackPla
     at_is : (d : ℕ) → get_or plan.choice (j - 1) d ≡ index_of job (choice_at job earlier t j)
     at_is d = ap (λ (x : TrackPlan). get_or x.choice (j - 1) d) o ∙ choice_row job earlier t j d low high
 
-    taken : (d : ℕ) (n : Net) → choice_at job earlier t j ≡ some n → Taken s t j (get_or plan.choice (j - 1) d)
+    taken : (d : ℕ) (n : Net) → choice_at job earlier t j ≡ Some n → Taken s t j (get_or plan.choice (j - 1) d)
     unfolding choice_at
     taken d n e =
         let c = choice_some job earlier t (job.board.rows - j) n e in
@@ -74,7 +73,7 @@ module _ (s : StoredJob) (a : AcceptedJob (job_of s)) (t : ℕ) (plan : TrackPla
           room = omega arith;
         }
 
-    pub row_none : (d : ℕ) → get_or plan.choice (j - 1) d ≡ no_choice → choice_at job earlier t j ≡ none
+    pub row_none : (d : ℕ) → get_or plan.choice (j - 1) d ≡ no_choice → choice_at job earlier t j ≡ None
     row_none d h =
         by_option (choice_at job earlier t j)
         (λ e. e)
@@ -87,35 +86,32 @@ module _ (s : StoredJob) (a : AcceptedJob (job_of s)) (t : ℕ) (plan : TrackPla
         (λ n e. taken d n e)
 
 -- ---- what the loop keeps: the wires from row j on, stored over what is there now, give what all the wires give
-pub record Walking (job : Job) (t : ℕ) (start now : Progress) (j : ℕ) : Type 0 where
+pub record Walking (job : Job) (t : ℕ) (start now : JobPlan) (j : ℕ) : Type 0 where
   pub low : 1 ≤ j
   pub high : j ≤ job.board.rows + 1
-  pub placed_on : marked (place job) (λ p. t) (walk_from job (on_first job (t - 1)) t j) now.placed ≡
-      marked (place job) (λ p. t) (wires_of job (on_first job (t - 1)) t) start.placed
-  pub nets_on : marked (place job) (λ p. record { stand = wired t p }) (walk_from job (on_first job (t - 1)) t j) now.nets ≡
-      marked (place job) (λ p. record { stand = wired t p }) (wires_of job (on_first job (t - 1)) t) start.nets
+  pub nets_on : marked (place job) (λ p. Some (wired t p)) (walk_from job (on_first job (t - 1)) t j) now.nets ≡
+      marked (place job) (λ p. Some (wired t p)) (wires_of job (on_first job (t - 1)) t) start.nets
   pub sums_on : now.sums ≡ start.sums
 
 module _ (job : Job) (t : ℕ) where
   abbrev held : List ℕ
   held = on_first job (t - 1)
 
-  pub walking_start : (p : Progress) → Walking job t p p 1
+  pub walking_start : (p : JobPlan) → Walking job t p p 1
   unfolding wires_of
-  walking_start p = record { low = omega arith; high = omega arith; placed_on = refl; nets_on = refl; sums_on = refl }
+  walking_start p = record { low = omega arith; high = omega arith; nets_on = refl; sums_on = refl }
 
-  pub walking_none : (p q : Progress) (j : ℕ) → Walking job t p q j → j ≤ job.board.rows → choice_at job held t j ≡ none → Walking job t p q (j + 1)
+  pub walking_none : (p q : JobPlan) (j : ℕ) → Walking job t p q j → j ≤ job.board.rows → choice_at job held t j ≡ None → Walking job t p q (j + 1)
   walking_none p q j w h e =
       let s = sym (walk_none job held t j w.low h e) in
-      record { low = omega (arith, w.low); high = omega arith; placed_on = rw s w.placed_on; nets_on = rw s w.nets_on; sums_on = w.sums_on }
+      record { low = omega (arith, w.low); high = omega arith; nets_on = rw s w.nets_on; sums_on = w.sums_on }
 
 -- after the net of a row is stored the walk goes on below it
-pub walking_some : (s : StoredJob) (t : ℕ) (p q : Progress) (j i : ℕ) (k : Taken s t j i) (shape : Shape) (rows : ℕ) →
+pub walking_some : (s : StoredJob) (t : ℕ) (p q : JobPlan) (j i : ℕ) (k : Taken s t j i) (shape : Shape) (rows : ℕ) →
     Walking (job_of s) t p q j → j ≤ s.board.rows → shape ≡ shortest s.board k.net → rows ≡ needed s.board k.net →
     Walking (job_of s) t p
     (record {
-      placed = set q.placed i t;
-      nets = set q.nets i (record { stand = Wired (record { 0 = t }) (record { 0 = j }) shape });
+      nets = set q.nets i (Some (record { track = record { 0 = t }; top = record { 0 = j }; shape = shape }));
       sums = q.sums;
     }) (j + rows)
 walking_some s t p q j i k shape rows w h e f =
@@ -124,14 +120,13 @@ walking_some s t p q j i k shape rows w h e f =
     (record {
       low = omega (arith, w.low);
       high = k.room;
-      placed_on = rw x at w.placed_on;
       nets_on = rw x at w.nets_on;
       sums_on = w.sums_on;
     })
 
 -- below the last row all wires are stored, and with the track's sum that is what is planned after the track
-module _ (job : Job) (a : AcceptedJob job) (t : ℕ) (p : Progress) (plan : TrackPlan) (o : OnTurn job t p) (e : plan ≡ track_plan job t) (q : Progress) (j : ℕ)
-    (w : Walking job t (record { placed = p.placed; nets = p.nets; sums = set p.sums (t - 1) plan.sum }) q j) (h : job.board.rows < j) where
+module _ (job : Job) (a : AcceptedJob job) (t : ℕ) (p : JobPlan) (plan : TrackPlan) (o : OnTurn job t p) (e : plan ≡ track_plan job t) (q : JobPlan) (j : ℕ)
+    (w : Walking job t (record { nets = p.nets; sums = set p.sums (t - 1) plan.sum }) q j) (h : job.board.rows < j) where
   abbrev u : ℕ
   u = t - 1
 
@@ -147,21 +142,16 @@ module _ (job : Job) (a : AcceptedJob job) (t : ℕ) (p : Progress) (plan : Trac
   none_left : walk_from job (on_first job u) t j ≡ []
   none_left = let e : j ≡ job.board.rows + 1 = omega (arith, w.high) in ap (walk_from job (on_first job u) t) e ∙ walk_end job (on_first job u) t
 
-  end_placed : q.placed ≡ (progress_to job t).placed
-  end_placed =
-      (rw none_left at w.placed_on) ∙ ap (λ (x : Progress). marked (place job) (λ p. t) wires x.placed) o.so_far ∙
-      (rw from_one at (placed_next job a u within))
-
   end_nets : q.nets ≡ (progress_to job t).nets
   end_nets =
-      (rw none_left at w.nets_on) ∙ ap (λ (x : Progress). marked (place job) (λ p. record { stand = wired t p }) wires x.nets) o.so_far ∙
+      (rw none_left at w.nets_on) ∙ ap (λ (x : JobPlan). marked (place job) (λ p. Some (wired t p)) wires x.nets) o.so_far ∙
       (rw from_one at (nets_next job a u within))
 
   end_sums : q.sums ≡ (progress_to job t).sums
   unfolding track_plan_of
   end_sums =
-      w.sums_on ∙ ap₂ (λ (x : Progress) (y : TrackPlan). set x.sums u y.sum) o.so_far e ∙
+      w.sums_on ∙ ap₂ (λ (x : JobPlan) (y : TrackPlan). set x.sums u y.sum) o.so_far e ∙
       (rw from_one at (sums_next job a u within))
 
   pub walking_end : q ≡ progress_to job t
-  walking_end = λ i. record { placed = end_placed i; nets = end_nets i; sums = end_sums i }
+  walking_end = λ i. record { nets = end_nets i; sums = end_sums i }

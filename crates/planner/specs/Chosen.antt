@@ -1,5 +1,6 @@
 -- The filled tracks that a plan by value stands for, as drawing lays them out, and what is promised of them.
-use Rattle.std.specs.Prelude.{ℕ, zero, suc, ◌+◌, ◌-◌, ◌<◌, ◌≡◌, Bool, true, false, cond, ◌&&◌, List, [], ◌∷◌, ◌++◌, eqb, get_or}
+use Rattle.std.specs.Prelude.{ℕ, zero, suc, ◌+◌, ◌-◌, ◌<◌, ◌≡◌, cond, ◌&&◌, List, [], ◌∷◌, ◌++◌, eqb, get_or, Option, None, Some}
+use Rattle.std.specs.Option.{is_none}
 use Rattle.lists.specs.Lists.{Each}
 use Rattle.board.specs.declared.Net.{Net}
 use Rattle.board.specs.Length.{shortest}
@@ -8,21 +9,19 @@ use Rattle.board.specs.Placement.{Placement}
 use Rattle.board.specs.Weight.{weight_sum}
 use Rattle.board.specs.Unbeaten.{FilledTrack, empty_track, Unbeaten}
 use Rattle.planning.specs.Loose.{sum_of_tracks}
-use Rattle.planner.specs.declared.Stand.{Stand}
-use Rattle.planner.specs.declared.Stand.TheVariants.{Loose, Wired}
-use Rattle.planner.specs.declared.NetPlan.{NetPlan}
+use Rattle.candidates.specs.declared.Wired.{Wired}
 use Rattle.planner.specs.declared.JobPlan.{JobPlan}
 
 -- the placement of a net that stands on track t with its top at a row, and none otherwise
-abbrev pub stands_at : ℕ → ℕ → Net → Stand → List Placement
-stands_at t row n Loose = []
-stands_at t row n (Wired track top shape) = cond (eqb track.0 t && eqb top.0 row) (record { net = n; shape = shape; top = row } ∷ []) []
+abbrev pub stands_at : ℕ → ℕ → Net → Option Wired → List Placement
+stands_at t row n None = []
+stands_at t row n (Some w) = cond (eqb w.track.0 t && eqb w.top.0 row) (record { net = n; shape = w.shape; top = row } ∷ []) []
 
 -- the placements on track t with the top at a row, of nets and their plans
-unfoldable pub row_of : ℕ → ℕ → List Net → List NetPlan → List Placement
+unfoldable pub row_of : ℕ → ℕ → List Net → List (Option Wired) → List Placement
 row_of t row [] ps = []
 row_of t row (n ∷ ns) [] = []
-row_of t row (n ∷ ns) (p ∷ ps) = stands_at t row n p.stand ++ row_of t row ns ps
+row_of t row (n ∷ ns) (p ∷ ps) = stands_at t row n p ++ row_of t row ns ps
 
 -- the placements on track t with the top in the last k rows, by rising row
 unfoldable pub last_rows : Job → JobPlan → ℕ → ℕ → List Placement
@@ -39,16 +38,11 @@ tracks_from job plan (suc k) t =
 unfoldable pub tracks_of : Job → JobPlan → List FilledTrack
 tracks_of job plan = tracks_from job plan job.board.tracks 1
 
--- a net that stands so stands on no track
-abbrev pub is_loose : Stand → Bool
-is_loose Loose = true
-is_loose (Wired track top shape) = false
-
 -- of nets and their plans, those that stand on no track
-unfoldable pub loose_from : List Net → List NetPlan → List Net
+unfoldable pub loose_from : List Net → List (Option Wired) → List Net
 loose_from [] ps = []
 loose_from (n ∷ ns) [] = []
-loose_from (n ∷ ns) (p ∷ ps) = let more = loose_from ns ps in cond (is_loose p.stand) (n ∷ more) more
+loose_from (n ∷ ns) (p ∷ ps) = let more = loose_from ns ps in cond (is_none p) (n ∷ more) more
 
 -- the loose nets of a plan by value
 unfoldable pub loose_nets : Job → JobPlan → List Net

@@ -3,58 +3,34 @@
 
 ghost use Rattle.std.specs.Prelude.{◌≡◌, ◌*◌, ◌≤◌, length};
 ghost use Rattle.board.specs.Accepted.{AcceptedJob};
-ghost use Rattle.board.specs.Stored.{job_of};
-ghost use Rattle.board.specs.Stored.{AcceptedStored};
+ghost use Rattle.board.specs.Stored.{job_of, AcceptedStored};
 ghost use Rattle.planner.specs.Chosen.{BestPlan};
 ghost use Rattle.planner.specs.JobPlans.{job_plan_of};
-ghost use Rattle.planner.specs.Progressed.{OnTurn, no_progress, progress_to, track_plan};
+ghost use Rattle.planner.specs.Progressed.{OnTurn, progress_to, track_plan};
 
-use board::{Row, Shape, StoredJob, Track, needed, shortest};
+use board::{Row, StoredJob, Track, needed, shortest};
+pub use candidates::Wired;
 use candidates::preceding;
 use choice::{TrackPlan, fill};
 use gathering::gather;
 
-// Where a net stands: on no track, or on a track with its top at a row, in a shape.
-#[derive(Clone, Copy)]
-pub enum Stand {
-    Loose,
-    Wired {
-        track: Track,
-        top: Row,
-        shape: Shape,
-    },
-}
-
-// The plan of one net.
-#[derive(Clone, Copy)]
-pub struct NetPlan {
-    pub stand: Stand,
-}
-
-// The plan of a job: where each net stands, by its index in the job, and the sum of each track (track t at place t − 1).
+// The plan of a job: where the wire of each net stands, by the net's index in the job, None for a loose net; and the sum of each track
+// (track t at place t − 1).
 #[derive(Clone, Copy)]
 pub struct JobPlan {
-    pub nets: [NetPlan; 512],
+    pub nets: [Option<Wired>; 512],
     pub sums: [usize; 128],
 }
 
-// What is planned after the first tracks: the track of each net, or 0 where it has none, the plan of each net, and the sum of each track.
-#[derive(Clone, Copy)]
-pub struct Progress {
-    pub placed: [usize; 512],
-    pub nets: [NetPlan; 512],
-    pub sums: [usize; 128],
-}
-
-// A track recorded in p from its plan: the walk from row 1 takes the net chosen for a row, and goes on below it.
-pub fn record_track(p: &mut Progress, job: &StoredJob, plan: &TrackPlan, track: Track)
+// A track recorded in p from its plan, where p has the tracks before it: the walk from row 1 takes the net chosen for a row, and goes on
+// below it.
+pub fn record_track(p: &mut JobPlan, job: &StoredJob, plan: &TrackPlan, track: Track)
     requires accepted_job { AcceptedJob (job_of job.now) }
     requires on_turn { OnTurn (job_of job.now) track.0 p.old }
     requires plan_value { plan.now ≡ track_plan (job_of job.now) track.0 }
     ensures { p.new ≡ progress_to (job_of job.now) track.0 }
 {
-    let t = track.0;
-    p.sums[t - 1] = plan.sum;
+    p.sums[track.0 - 1] = plan.sum;
     let board = job.board;
     let mut j = 1;
     while j <= board.rows {
@@ -65,34 +41,18 @@ pub fn record_track(p: &mut Progress, job: &StoredJob, plan: &TrackPlan, track: 
             let net = job.nets[c];
             let shape = shortest(board, net);
             let bottom = j + needed(board, net) - 1;
-            let stand = Stand::Wired {
+            let wired = Wired {
                 track,
                 top: Row(j),
                 shape,
             };
-            let wired = NetPlan { stand };
-            p.placed[c] = t;
-            p.nets[c] = wired;
+            p.nets[c] = Some(wired);
             j = bottom + 1;
         }
     }
 }
 
-// Nothing planned yet: every net is loose.
-fn no_progress() -> Progress
-    ensures { result ≡ no_progress }
-{
-    let loose = NetPlan {
-        stand: Stand::Loose,
-    };
-    Progress {
-        placed: [0usize; 512],
-        nets: [loose; 512],
-        sums: [0usize; 128],
-    }
-}
-
-// The plan of a job: its tracks filled in order 1 to K, with flags for all its nets.
+// The plan of a job: its tracks filled in order 1 to K, with flags for all its nets. Before track 1 every net is loose.
 fn plan_tracks(job: &StoredJob, flags: &mut [u8]) -> JobPlan
     requires accepted_stored { AcceptedStored job.now }
     requires flags_room { job.now.nnets * 1024 ≤ length flags.old }
@@ -100,42 +60,27 @@ fn plan_tracks(job: &StoredJob, flags: &mut [u8]) -> JobPlan
     ensures best { BestPlan (job_of job.now) result }
 {
     let before = preceding(job);
-    let mut p = no_progress();
-    let mut t = 1;
-    while t <= job.board.tracks {
-        let c = gather(job, &before, &p.placed, Track(t), flags);
-        let plan = fill(c, flags, job.board.rows);
+    let mut p = JobPlan {
+        nets: [None; 512],
+        sums: [0; 128],
+    };
+    for t in 1..=job.board.tracks {
+        let c = gather(job, &before, &p.nets, Track(t), flags);
+        let plan = fill(&c, flags, job.board.rows);
         record_track(&mut p, job, &plan, Track(t));
-        t += 1;
     }
-    let nets = p.nets;
-    let sums = p.sums;
-    JobPlan { nets, sums }
+    p
 }
 
-// The plan of a job of at most 64 nets. What the flags cost to clear would be most of the time of a small job.
-fn plan_few(job: &StoredJob) -> JobPlan
+// The plan of a job, with so many bytes of flags. What the flags cost to clear would be most of the time of a small job.
+fn plan_with<const BYTES: usize>(job: &StoredJob) -> JobPlan
     requires accepted_stored { AcceptedStored job.now }
-    requires few { job.now.nnets ≤ 64 }
+    requires flags_room { job.now.nnets * 1024 ≤ BYTES }
+    requires few_bytes { BYTES ≤ 524288 }
     ensures answer { result ≡ job_plan_of (job_of job.now) }
     ensures best { BestPlan (job_of job.now) result }
 {
-    let mut flags = [0u8; 65536];
-    plan_tracks(job, &mut flags)
-}
-
-// Room for the flags of 512 nets.
-fn all_flags() -> [u8; 524288] {
-    [0u8; 524288]
-}
-
-// The plan of a job of any number of nets.
-fn plan_many(job: &StoredJob) -> JobPlan
-    requires { AcceptedStored job.now }
-    ensures answer { result ≡ job_plan_of (job_of job.now) }
-    ensures best { BestPlan (job_of job.now) result }
-{
-    let mut flags = all_flags();
+    let mut flags = [0u8; BYTES];
     plan_tracks(job, &mut flags)
 }
 
@@ -146,8 +91,8 @@ pub fn plan_job(job: &StoredJob) -> JobPlan
     ensures best { BestPlan (job_of job.now) result }
 {
     if job.nnets <= 64 {
-        plan_few(job)
+        plan_with::<65536>(job)
     } else {
-        plan_many(job)
+        plan_with::<524288>(job)
     }
 }

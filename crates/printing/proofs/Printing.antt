@@ -1,7 +1,8 @@
 -- What stands in the buffer after an operation that writes a text is what the program prints, or the line of the refusal fits there. Assumes
 -- nothing.
+use Rattle.std.specs.Prelude.{Result, Ok}
 use Prim.Native.Nat.{ℕ, ◌≤◌}
-use mathlib.Core.Path.{◌≡◌, refl, sym, ◌∙◌}
+use mathlib.Core.Path.{◌≡◌, refl}
 use mathlib.Core.List.{List}
 use mathlib.Core.Bool.{true}
 use native.Mathlib.Omega.{arith}
@@ -15,30 +16,10 @@ use Rattle.text.proofs.Writing.{start_written}
 use Rattle.jobfile.specs.Read.{Read, accepted, refused, read_job}
 use Rattle.jobfile.specs.OfAccepted.{OfAccepted}
 use Rattle.jobfile.proofs.Accepts.{read_accepted}
-use Rattle.jobfile.proofs.Refusals.{read_refused, fault_from}
-use Rattle.reader.specs.Reports.{refused_text}
 use Rattle.reader.proofs.Reports.{refused_short}
-use Rattle.answers.specs.declared.TextAnswer.{TextAnswer}
-use Rattle.answers.specs.declared.TextAnswer.TheVariants as Is
-use Rattle.answers.specs.Answers.{answer_values, answer_for, buffer_for, text_answer, buffer_after}
+use Rattle.answers.specs.declared.TextRefusal.{TextRefusal}
+use Rattle.answers.specs.Answers.{answer_for, buffer_for, text_answer, buffer_after}
 use Rattle.printing.specs.Printed.{printed_text, RefusalFits, Reported}
-
--- ---- the buffer becomes what is printed
-
-module _ (a : TextAnswer) {n : ℕ} (e : n ≡ (answer_values a).number) where
-  -- no number: it stays as it is
-  pub text_reported : (before : List ℕ) {r : ℕ} → n ≡ 0 → r ≡ (answer_values a).bytes → Reported a before before r
-  text_reported before z g = record { as_written = λ q. (g, refl); as_refused = λ q. absurd (q (sym e ∙ z)) }
-
-  module _ (z : n ≡ 0 → ⊥) {l : ℕ} (f : l ≡ (answer_values a).line) where
-    -- a number: its line fits, and is written
-    pub refusal_room : (out : List ℕ) → RefusalFits a out → length (refused_text n l) ≤ length out
-    refusal_room out h = rw (e, f) (h (λ q. z (e ∙ q)))
-
-    pub refusal_reported : {before after : List ℕ} {r : ℕ} → Written (refused_text n l) before after r → Reported a before after r
-    refusal_reported w = record { as_written = λ q. absurd (z (e ∙ q)); as_refused = λ q. rw (e, f) at w }
-
--- ---- which is what the program prints
 
 module _ (text : Job → List ℕ) (short : (job : Job) → AcceptedJob job → length (text job) ≤ 64000) (file before : List ℕ) (room : length before ≡ 64000) where
   -- every text fits
@@ -48,20 +29,20 @@ module _ (text : Job → List ℕ) (short : (job : Job) → AcceptedJob job → 
   -- the line of a refusal has room, by what the file is read as
   fits_by : (y : Read) → read_job file ≡ y → RefusalFits (text_answer text y (length before)) (buffer_after text y before)
   unfolding text_answer answer_for buffer_after
-  fits_by (accepted job) e z = absurd (z (rw (text_fits job e)))
-  fits_by (refused o) e z = omega (arith, refused_short file o e)
+  fits_by (accepted job) e = rw (text_fits job e) tt
+  fits_by (refused o) e = omega (arith, refused_short file o e)
 
   -- what the buffer becomes is what is printed
   printed_by : (y : Read) → read_job file ≡ y → {last : List ℕ} {r : ℕ} → Reported (text_answer text y (length before)) (buffer_after text y before) last r →
       Written (printed_text text y) before last r
   unfolding text_answer answer_for buffer_after buffer_for printed_text
   printed_by (accepted job) e {last} {r} w =
-      let h : Reported (Is.Written (length (text job))) (over (text job) before) last r = rw (text_fits job e) at w in
-      record { used = (h.as_written refl).0; bytes = (h.as_written refl).1 }
-  printed_by (refused o) e w = w.as_refused (λ z. omega (arith, z, fault_from file o (read_refused file o e).fault))
+      let h : Reported (Ok (length (text job))) (over (text job) before) last r = rw (text_fits job e) at w in
+      record { used = h.0; bytes = h.1 }
+  printed_by (refused o) e w = w
 
   -- what the code holds: the answer and the buffer afterwards
-  module _ {a : TextAnswer} {after : List ℕ} (e : a ≡ text_answer text (read_job file) (length before)) (f : after ≡ buffer_after text (read_job file) before) where
+  module _ {a : Result ℕ TextRefusal} {after : List ℕ} (e : a ≡ text_answer text (read_job file) (length before)) (f : after ≡ buffer_after text (read_job file) before) where
     pub refusal_fits : RefusalFits a after
     refusal_fits = rw (e, f) (fits_by (read_job file) refl)
 

@@ -1,11 +1,11 @@
 -- Document 01, "Operations", and document 02: what a program prints that writes a text for a job.
-use Rattle.std.specs.Prelude.{ℕ, ◌≤◌, ◌≡◌, List, length}
+use Rattle.std.specs.Prelude.{ℕ, ◌≤◌, ◌≡◌, List, length, Result, Ok, Err}
 use Rattle.board.specs.Job.{Job}
 use Rattle.text.specs.Written.{Written}
 use Rattle.jobfile.specs.Read.{Read, accepted, refused}
 use Rattle.jobfile.specs.Answers.{number_of, line_of}
 use Rattle.reader.specs.Reports.{refused_text}
-use Rattle.answers.specs.declared.TextAnswer.{TextAnswer}
+use Rattle.answers.specs.declared.TextRefusal.{TextRefusal}
 use Rattle.answers.specs.Answers.{answer_values}
 
 -- what is printed, by what the job file is read as: the text, or `(refused number line)`. Every text has room, so 10 does not come up
@@ -14,11 +14,12 @@ printed_text text (accepted job) = text job
 printed_text text (refused o) = refused_text (number_of o) (line_of o)
 
 -- the line of the refusal, if there is one, fits into the buffer
-abbrev pub RefusalFits : TextAnswer → List ℕ → Type 0
-RefusalFits a out = ((answer_values a).number ≡ 0 → ⊥) → length (refused_text (answer_values a).number (answer_values a).line) ≤ length out
+abbrev pub RefusalFits : Result ℕ TextRefusal → List ℕ → Type 0
+RefusalFits (Ok n) out = Unit {0}
+RefusalFits (Err e) out = length (refused_text (answer_values (Err e)).number (answer_values (Err e)).line) ≤ length out
 
 -- how the buffer with a text becomes what is printed, of which there are r bytes: it stays as it is where the text was written; otherwise
 -- the line of the refusal is written over its start
-pub record Reported (a : TextAnswer) (before after : List ℕ) (r : ℕ) : Type 0 where
-  pub as_written : (answer_values a).number ≡ 0 → (r ≡ (answer_values a).bytes) × (after ≡ before)
-  pub as_refused : ((answer_values a).number ≡ 0 → ⊥) → Written (refused_text (answer_values a).number (answer_values a).line) before after r
+abbrev pub Reported : Result ℕ TextRefusal → List ℕ → List ℕ → ℕ → Type 0
+Reported (Ok n) before after r = (r ≡ n) × (after ≡ before)
+Reported (Err e) before after r = Written (refused_text (answer_values (Err e)).number (answer_values (Err e)).line) before after r

@@ -13,7 +13,7 @@ ghost use Rattle.house.specs.HouseText.{house_text};
 ghost use Rattle.house.specs.Promises.{IsFixed, ReadsBack, OneText, FixedAgain};
 ghost use Rattle.printing.specs.Printed.{printed_text, RefusalFits, Reported};
 
-use answers::TextAnswer;
+use answers::TextRefusal;
 
 // A text to print: the first `used` bytes. There is room for every text, so what is printed is never cut.
 #[derive(Clone, Copy)]
@@ -23,16 +23,14 @@ pub struct Printed {
 }
 
 // Makes of the buffer after an operation what is printed, and returns its length: the text that stands there, or the line of the refusal.
-fn put_report(out: &mut [u8], answer: TextAnswer) -> usize
+fn put_report(out: &mut [u8], answer: Result<usize, TextRefusal>) -> usize
     requires { RefusalFits answer out.old }
     ensures { Reported answer out.old out.new result }
 {
-    let number = answers::answer_number(answer);
-    if number == 0 {
-        return answers::answer_bytes(answer);
+    match answer {
+        Ok(written) => written,
+        Err(refusal) => reader::report::put_refusal(out, refusal.number(), refusal.line()),
     }
-    let line = answers::answer_line(answer);
-    reader::report::put_refusal(out, number, line)
 }
 
 // Routes a job, and gives what the program prints for it: the layout, or the line of the refusal.

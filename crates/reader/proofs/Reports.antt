@@ -1,5 +1,6 @@
 -- The line that a reading prints: its parts, its length, and that it is the one of the reading. A refusal names no line behind
 -- 64,001. Assumes nothing.
+use Rattle.std.specs.Prelude.{Ok, Err}
 use mathlib.Core.Path.{◌≡◌, refl, sym, ap, ◌∙◌}
 use mathlib.Core.Bool.{Bool}
 use mathlib.Core.List.{List, [], ◌∷◌, ◌++◌, append_assoc}
@@ -13,14 +14,13 @@ use Rattle.text.specs.Bytes.{is_end, joined, pieces, lines}
 use Rattle.text.specs.Digits.{digits}
 use Rattle.text.proofs.Numbers.{length_digits}
 use Rattle.text.specs.Written.{Written}
-use Rattle.jobfile.specs.declared.Answer.{Answer}
-use Rattle.jobfile.specs.declared.Outcome.{Outcome}
-use Rattle.jobfile.specs.declared.Outcome.TheVariants.{Accepted, TooLong, NotOfForm, OutOfRange, TooMany, NumberNotAbove, PinUsed, SameRow, NoLength, TooFewRows}
+use Rattle.board.specs.declared.StoredJob.{StoredJob}
+use Rattle.jobfile.specs.declared.Refusal.{Refusal}
 use Rattle.jobfile.specs.Forms.{read_form}
 use Rattle.jobfile.specs.Read.{State, start, opened, sized, filled, closed, Next, go, stop, step, Read, accepted, refused, ended, follow, read_from, read_job}
 use Rattle.jobfile.specs.Answers.{number_of, line_of, answer_of}
-use Rattle.jobfile.proofs.Outcomes.{number_below}
-use Rattle.jobfile.proofs.Returned.{returned_job}
+use Rattle.jobfile.proofs.RefusalNumbers.{number_below}
+use Rattle.jobfile.proofs.Returned.{given_read, given_refused}
 use Rattle.jobsteps.proofs.States.{SizedState, LeadsOn, step_sound}
 use Rattle.reader.specs.Reports.{refused_text, accepted_text, report_text}
 
@@ -41,7 +41,7 @@ ended_line k (closed job) = tt
 follow_line : (j k : ℕ) (x : Next) (f : State → Read) → LeadsOn j x → j ≤ k → ((s : State) → SizedState s → Bounded k (f s)) → Bounded k (follow x f)
 unfolding Bounded follow
 follow_line j k (go s) f g h b = b s g
-follow_line j k (stop o) f g h b = omega (arith, g.1)
+follow_line j k (stop o) f g h b = omega (arith, g)
 
 from_line : (j k : ℕ) (s : State) (ls : List (List ℕ)) → SizedState s → j + length ls ≡ k → Bounded k (read_from j s ls)
 unfolding read_from
@@ -63,11 +63,6 @@ pieces_few f (b ∷ bs) =
     let h = pieces_few f bs in
     by_test (f b) (λ e. rw e (omega arith)) (λ e. rw e (joined_few b (pieces f bs) (length bs) h))
 
-bounded_outcome : (k : ℕ) (r : Read) → Bounded k r → line_of (answer_of r).outcome ≤ k
-unfolding Bounded answer_of
-bounded_outcome k (accepted job) b = omega arith
-bounded_outcome k (refused o) b = b
-
 bounded_more : (j k : ℕ) (r : Read) → j ≤ k → Bounded j r → Bounded k r
 unfolding Bounded
 bounded_more j k (accepted job) h b = tt
@@ -84,9 +79,6 @@ read_bounded text =
     (from_line 1 (1 + n) start (lines text) tt refl)))
     (λ e. rw e (omega arith))
 
-line_most : (text : List ℕ) → line_of (answer_of (read_job text)).outcome ≤ 64001
-line_most text = bounded_outcome 64001 (read_job text) (read_bounded text)
-
 -- ---- the text of a refusal
 
 abbrev pub head : List ℕ
@@ -102,7 +94,7 @@ refused_parts n l = simp append_assoc
 pub refused_length : (n l : ℕ) → length (refused_text n l) ≡ 12 + length (digits n) + length (digits l)
 refused_length n l = ap length (refused_parts n l) ∙ simp length-append (omega arith)
 
-refused_room : (o : Outcome) → line_of o ≤ 64001 → length (refused_text (number_of o) (line_of o)) ≤ 32
+refused_room : (o : Refusal) → line_of o ≤ 64001 → length (refused_text (number_of o) (line_of o)) ≤ 32
 refused_room o h =
     omega (
       arith,
@@ -113,48 +105,23 @@ refused_room o h =
 
 -- ---- the line of a reading
 
-refused_report : (r : Read) → (number_of (answer_of r).outcome ≡ 0 → ⊥) →
-    refused_text (number_of (answer_of r).outcome) (line_of (answer_of r).outcome) ≡ report_text r
-unfolding answer_of report_text
-refused_report (accepted job) h = absurd (h refl)
-refused_report (refused o) h = refl
-
-zero_accepted : (o : Outcome) → number_of o ≡ 0 → o ≡ Accepted
-zero_accepted Accepted e = refl
-zero_accepted TooLong e = absurd (omega arith)
-zero_accepted (NotOfForm k) e = absurd (omega arith)
-zero_accepted (OutOfRange k) e = absurd (omega arith)
-zero_accepted (TooMany k) e = absurd (omega arith)
-zero_accepted (NumberNotAbove k) e = absurd (omega arith)
-zero_accepted (PinUsed k) e = absurd (omega arith)
-zero_accepted (SameRow k) e = absurd (omega arith)
-zero_accepted (NoLength k) e = absurd (omega arith)
-zero_accepted (TooFewRows k) e = absurd (omega arith)
-
-accepted_report : (text : List ℕ) → number_of (answer_of (read_job text)).outcome ≡ 0 → accepted_text ≡ report_text (read_job text)
+-- what was written is the line of the text's reading, where it is accepted
+pub report_accepted : (text : List ℕ) (job : StoredJob) {s t : List ℕ} {r : ℕ} → Ok job ≡ answer_of (read_job text) → Written accepted_text s t r →
+    Written (report_text (read_job text)) s t r
 unfolding report_text
-accepted_report text e = rw (returned_job text (zero_accepted (answer_of (read_job text)).outcome e))
+report_accepted text job e w = rw (given_read text job e) w
 
--- what was written is the line of the text's reading, where `a` is its answer
-module _ (text : List ℕ) (a : Answer) (n : ℕ) (e : a ≡ answer_of (read_job text)) (f : n ≡ number_of a.outcome) where
-  same_number : n ≡ number_of (answer_of (read_job text)).outcome
-  same_number = f ∙ ap (λ (x : Answer). number_of x.outcome) e
+-- and where it is refused
+module _ (text : List ℕ) (o : Refusal) (e : Err o ≡ answer_of (read_job text)) where
+  pub report_room : length (refused_text (number_of o) (line_of o)) ≤ 32
+  unfolding Bounded
+  report_room = refused_room o (rw (given_refused text o e) at (read_bounded text))
 
-  pub report_accepted : {s t : List ℕ} {r : ℕ} → n ≡ 0 → Written accepted_text s t r → Written (report_text (read_job text)) s t r
-  report_accepted z w = rw (← accepted_report text (sym same_number ∙ z)) w
-
-  module _ (l : ℕ) (g : l ≡ line_of a.outcome) where
-    same_line : l ≡ line_of (answer_of (read_job text)).outcome
-    same_line = g ∙ ap (λ (x : Answer). line_of x.outcome) e
-
-    pub report_room : length (refused_text n l) ≤ 32
-    report_room = rw (same_number, same_line) (refused_room (answer_of (read_job text)).outcome (line_most text))
-
-    pub report_refused : {s t : List ℕ} {r : ℕ} → (n ≡ 0 → ⊥) → Written (refused_text n l) s t r → Written (report_text (read_job text)) s t r
-    report_refused z w =
-        rw (← refused_report (read_job text) (λ q. z (same_number ∙ q)), ← same_number, ← same_line) w
+  pub report_refused : {s t : List ℕ} {r : ℕ} → Written (refused_text (number_of o) (line_of o)) s t r → Written (report_text (read_job text)) s t r
+  unfolding report_text
+  report_refused w = rw (given_refused text o e) w
 
 -- so is that of a refusal by itself
-pub refused_short : (text : List ℕ) (o : Outcome) → read_job text ≡ refused o → length (refused_text (number_of o) (line_of o)) ≤ 32
+pub refused_short : (text : List ℕ) (o : Refusal) → read_job text ≡ refused o → length (refused_text (number_of o) (line_of o)) ≤ 32
 unfolding Bounded
 refused_short text o e = refused_room o (rw e at (read_bounded text))

@@ -3,19 +3,12 @@ ghost use Rattle.std.specs.Prelude.{◌≡◌, ◌≤◌};
 ghost use Rattle.reader.specs.Cursors.{form_step};
 
 use jobfile::Form;
-use lines::{Place, Step};
+use lines::Place;
 
 // The reading place: it moves on by a whole line, never back.
 #[derive(Clone, Copy)]
 pub struct Cursor {
     pub place: Place,
-}
-
-// What stands at a reading place: the form of the line there and the place behind it; or nothing more.
-#[derive(Clone, Copy)]
-pub enum FormStep {
-    Read { form: Form, next: Cursor },
-    End,
 }
 
 impl Cursor {
@@ -27,21 +20,13 @@ impl Cursor {
         Self { place }
     }
 
-    // Reads the form of the line here, and moves on by that line.
-    pub fn next(self, s: &[u8]) -> FormStep
+    // Reads the form of the line here, and moves on by that line; None at the end of the text.
+    pub fn next(self, s: &[u8]) -> Option<(Form, Cursor)>
         requires { self.place.passed ≤ self.place.at }
         ensures { result ≡ form_step s.now self }
     {
-        let here = self.place;
-        match here.next_line(s) {
-            Step::Line { from, to, next } => {
-                let form = forms::read_form(&s[from..to]);
-                FormStep::Read {
-                    form,
-                    next: Cursor { place: next },
-                }
-            }
-            Step::End => FormStep::End,
-        }
+        let line = self.place.next_line(s)?;
+        let form = forms::read_form(&s[line.from..line.to]);
+        Some((form, Cursor { place: line.next }))
     }
 }

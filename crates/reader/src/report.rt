@@ -20,11 +20,8 @@ pub fn report(text: &[u8], out: &mut [u8]) -> usize
     requires { 32 ≤ length out.old }
     ensures { Written (report_text (read_job text.now)) out.old out.new result }
 {
-    let answer = crate::read(text);
-    let outcome = answer.outcome;
-    let number = jobrules::number_of(outcome);
-    if number == 0 {
-        return text::put_bytes(out, b"(accepted)\n");
+    match crate::read(text) {
+        Ok(_) => text::put_bytes(out, b"(accepted)\n"),
+        Err(refusal) => put_refusal(out, refusal.number(), refusal.line()),
     }
-    put_refusal(out, number, jobrules::line_of(outcome))
 }

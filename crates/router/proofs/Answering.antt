@@ -1,4 +1,5 @@
 -- What route promises, from its answer and its buffer by equation; and the text that is drawn is the one that route writes. Assumes nothing.
+use Rattle.std.specs.Prelude.{Result}
 use Prim.Native.Nat.{ℕ, ◌≤◌}
 use mathlib.Core.Path.{◌≡◌, refl, ap, ◌∙◌}
 use mathlib.Core.List.{List}
@@ -19,13 +20,13 @@ use Rattle.planner.specs.declared.JobPlan.{JobPlan}
 use Rattle.planner.specs.JobPlans.{job_plan_of}
 use Rattle.drawer.specs.PlanText.{plan_text, DrawablePlan}
 use Rattle.drawer.proofs.PlanDrawable.{plan_is_route, plan_drawable}
-use Rattle.answers.specs.declared.TextAnswer.{TextAnswer}
+use Rattle.answers.specs.declared.TextRefusal.{TextRefusal}
 use Rattle.answers.specs.Answers.{answer_values, document_values, text_answer, RightFor, buffer_after, OfWritten}
 use Rattle.answers.proofs.Answering.{Given, values_given, right_given, held_given}
 use Rattle.router.specs.LayoutLength.{LayoutLength}
 
 -- all that route promises of its answer and of the buffer afterwards
-abbrev pub Promised : List ℕ → List ℕ → TextAnswer → List ℕ → Type 0
+abbrev pub Promised : List ℕ → List ℕ → Result ℕ TextRefusal → List ℕ → Type 0
 Promised file before r after =
     record {
       answer : r ≡ text_answer route_text (read_job file) (length before);
@@ -41,7 +42,7 @@ Promised file before r after =
 layout_length : (job : Job) → AcceptedJob job → LayoutLength job (length (route_text job))
 layout_length job a = let d = route_demanded job a (route_text job) refl in (route_text job, (d.0, (d.1.0, refl)))
 
-pub promised : (file before : List ℕ) {r : TextAnswer} {after : List ℕ} → Given route_text file before r after → Promised file before r after
+pub promised : (file before : List ℕ) {r : Result ℕ TextRefusal} {after : List ℕ} → Given route_text file before r after → Promised file before r after
 promised file before g =
     let held : (P : Job → List ℕ → Type 0) → ((job : Job) → AcceptedJob job → P job (route_text job)) → OfWritten P (read_job file) _ _ = held_given route_text file before g in
     record {

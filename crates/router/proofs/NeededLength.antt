@@ -1,4 +1,5 @@
 -- Refusal 10 names one length: that of the text which route writes into a buffer that is long enough. Assumes nothing.
+use Rattle.std.specs.Prelude.{Ok, Err}
 use Prim.Native.Nat.{ℕ}
 use mathlib.Core.Path.{◌≡◌, sym, ap, ◌∙◌}
 use mathlib.Core.List.{List}
@@ -9,7 +10,7 @@ use Rattle.jobfile.proofs.Refusals.{faultless_accepted}
 use Rattle.jobfile.proofs.Accepts.{read_accepted}
 use Rattle.routing.specs.Route.{route_text}
 use Rattle.routing.proofs.OnlyText.{only_text}
-use Rattle.answers.specs.declared.TextAnswer.TheVariants.{TooSmall}
+use Rattle.answers.specs.declared.TextRefusal.TheVariants.{TooSmall}
 use Rattle.answers.specs.Answers.{RightFor}
 use Rattle.answers.proofs.TakenOut.{too_small_is}
 use Rattle.router.specs.LayoutLength.{LayoutLength}
@@ -19,7 +20,7 @@ module _ (text : List ℕ) (room : ℕ) where
   abbrev held : Job
   held = job_in (forms_of text)
 
-  pub needed_is : (n : ℕ) → RightFor LayoutLength text room (TooSmall n) → n ≡ length (route_text held)
+  pub needed_is : (n : ℕ) → RightFor LayoutLength text room (Err (TooSmall n)) → n ≡ length (route_text held)
   needed_is n h =
       let s = too_small_is LayoutLength text room n h in
       let e = faultless_accepted text s.0 in

@@ -10,11 +10,11 @@ ghost use Rattle.routing.specs.Route.{route_text};
 ghost use Rattle.answers.specs.Answers.{answer_values, document_values, text_answer, RightFor, buffer_after, OfWritten};
 ghost use Rattle.router.specs.LayoutLength.{LayoutLength};
 
-use answers::TextAnswer;
+use answers::TextRefusal;
 
 // Routes a job into a buffer. The layout is drawn into a buffer of its own, which every layout fits, so that its length is known before a
 // byte of the lent one is written; then its text is copied there.
-pub fn route(job: &[u8], out: &mut [u8]) -> TextAnswer
+pub fn route(job: &[u8], out: &mut [u8]) -> Result<usize, TextRefusal>
     ensures answer { result ≡ text_answer route_text (read_job job.now) (length out.old) }
     ensures values { answer_values result ≡ document_values route_text (read_job job.now) (length out.old) }
     ensures right { RightFor LayoutLength job.now (length out.old) result }
@@ -23,13 +23,9 @@ pub fn route(job: &[u8], out: &mut [u8]) -> TextAnswer
     ensures sound { OfWritten (λ j text. Sound j text) (read_job job.now) result out.new }
     ensures unbeaten { OfWritten (λ j text. UnbeatenText j text) (read_job job.now) result out.new }
 {
-    let answer = reader::read(job);
-    let outcome = answer.outcome;
-    if jobrules::number_of(outcome) != 0 {
-        return TextAnswer::Refused(outcome);
-    }
-    let plan = planner::plan_job(&answer.job);
+    let stored = reader::read(job)?;
+    let plan = planner::plan_job(&stored);
     let mut drawn = [0u8; 64000];
-    let needed = drawer::draw(&answer.job, &plan, &mut drawn);
+    let needed = drawer::draw(&stored, &plan, &mut drawn);
     answers::put_answer(&drawn[..needed], out)
 }

@@ -1,7 +1,7 @@
 -- Demands 2 and 3 on the bytes that route writes. Assumes nothing.
 use Prim.Native.Nat.{ℕ, zero, suc, ◌+◌, ◌≤◌, ◌<◌}
 use mathlib.Core.Path.{◌≡◌, refl, sym, ap, ap₂, ◌∙◌}
-use mathlib.Core.Option.{some}
+use Rattle.std.specs.Prelude.{Some}
 use mathlib.Core.List.{List, [], ◌∷◌, ◌++◌, map, Memᴰ}
 use native.Mathlib.Omega.{arith}
 use lib.ListN.{length, get_or, take}
@@ -100,14 +100,14 @@ module _ (job : Job) (a : AcceptedJob job) where
       drawn_at job 1 (plan_of job) i (omega (arith, u.count)) ∙ ap (λ (x : ℕ). drawn_track job x (get_or (plan_of job) i empty_track)) e
 
   -- reading a sound text gives its one layout
-  pub sound_read : (text : List ℕ) (s : Sound job text) → read_layout text ≡ some s.layout
+  pub sound_read : (text : List ℕ) (s : Sound job text) → read_layout text ≡ Some s.layout
   sound_read text s = rw s.rendered (read_layout_lem s.layout (bounded_small s.layout (sound_bounded job a text s)))
 
-  pub route_read : read_layout (route_text job) ≡ some (route_layout job)
+  pub route_read : read_layout (route_text job) ≡ Some (route_layout job)
   unfolding route_text
   route_read =
       let s = route_sound job a in
-      sound_read (route_text job) s ∙ ap some (layout_text_injective s.layout (route_layout job) (sym s.rendered))
+      sound_read (route_text job) s ∙ ap Some (layout_text_injective s.layout (route_layout job) (sym s.rendered))
 
   pub route_length : length (route_text job) ≤ 64000
   route_length = sound_length job a (route_text job) (route_sound job a)

@@ -3,7 +3,7 @@
 use Prim.Native.Nat.{ℕ, suc, ◌<◌}
 use mathlib.Core.Path.{◌≡◌, refl, sym, ap, ◌∙◌}
 use mathlib.Core.Bool.{true}
-use mathlib.Core.Option.{none, some, some-injective, none-ne-some}
+use Rattle.std.specs.Prelude.{None, Some}
 use mathlib.Core.List.{List, [], ◌∷◌, map, Memᴰ}
 use native.Mathlib.Omega.{arith}
 use lib.Dec.{leb}
@@ -34,6 +34,7 @@ use Rattle.layout.proofs.RoundTrip.{layout_text_injective}
 use Rattle.sound.specs.Wires.{RivalWires, weight_by, weight_of, sum_over, track_numbers, wires_sum}
 use Rattle.routing.specs.DrawnTracks.{drawn_tracks, no_track}
 use Rattle.routing.specs.Promises.{ShortestWire, ShortestText, OptimalTrack, UnbeatenText}
+use Rattle.std.proofs.lemmas.Option.{none-some, same_Some}
 
 -- ---- the layouts
 
@@ -150,9 +151,9 @@ pub record DrawnShortest (job : Job) (t : ℕ) (w : Wire) : Type 0 where
   pub of_job : Memᴰ net job.nets
   pub drawn_is : w ≡ wire_of job.board t (shortest_at job.board net top)
 
-module _ (job : Job) (plan : List FilledTrack) (text : List ℕ) (s : ShortestText job plan text) (l : Layout) (e : read_layout text ≡ some l) where
+module _ (job : Job) (plan : List FilledTrack) (text : List ℕ) (s : ShortestText job plan text) (l : Layout) (e : read_layout text ≡ Some l) where
   same_layout : s.layout ≡ l
-  same_layout = some-injective s.layout l (sym s.read ∙ e)
+  same_layout = same_Some s.layout l (sym s.read ∙ e)
 
   pub read_shortest : AcceptedJob job → (i : ℕ) → i < job.board.tracks → Each (DrawnShortest job (suc i)) (get_or l.tracks i no_track).wires
   read_shortest a i h =
@@ -172,13 +173,13 @@ fits_check job plan text s = le-leb (length text) 64000 s.bytes_most
 -- ---- reading back
 
 -- a number of seven digits is not read
-pub seven_digits : read_layout (layout_text (laid [] (1000000 ∷ []))) ≡ none
+pub seven_digits : read_layout (layout_text (laid [] (1000000 ∷ []))) ≡ None
 unfolding read_layout rough_layout gathered add rough_line line_from points_of words_in pieces joined non_empty same value_from small_lines small_line layout_text layout_lines lines_text tracks_then loose_then line_text digits digits_in
 seven_digits = refl
 
 -- so neither demand holds of a text with one
 pub seven_digits_shortest : (job : Job) (plan : List FilledTrack) → ShortestText job plan (layout_text (laid [] (1000000 ∷ []))) → ⊥
-seven_digits_shortest job plan s = none-ne-some s.layout (sym seven_digits ∙ s.read)
+seven_digits_shortest job plan s = none-some s.layout (sym seven_digits ∙ s.read)
 
 pub seven_digits_unbeaten : (job : Job) → UnbeatenText job (layout_text (laid [] (1000000 ∷ []))) → ⊥
-seven_digits_unbeaten job u = none-ne-some u.layout (sym seven_digits ∙ u.read)
+seven_digits_unbeaten job u = none-some u.layout (sym seven_digits ∙ u.read)

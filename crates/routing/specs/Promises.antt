@@ -1,7 +1,6 @@
 -- Demands 2 and 3 on the bytes of a layout: what route promises of the text that it writes. Nothing here looks at how a track is chosen:
 -- `plan` stands for any list of filled tracks. proofs/WorthlessTexts.antt has texts that each clause shuts out.
-use Rattle.std.specs.Prelude.{ℕ, suc, ◌≤◌, ◌<◌, ◌≡◌, length, get_or, take}
-use Rattle.std.proofs.Math.Option.{some}
+use Rattle.std.specs.Prelude.{ℕ, suc, ◌≤◌, ◌<◌, ◌≡◌, length, get_or, take, Some}
 use mathlib.Core.List.{List, Memᴰ}
 use Rattle.lists.specs.Lists.{Each}
 use Rattle.board.specs.declared.Shape.{Shape}
@@ -33,7 +32,7 @@ pub record ShortestWire (job : Job) (t : ℕ) (w : Wire) : Type 0 where
 pub record ShortestText (job : Job) (plan : List FilledTrack) (text : List ℕ) : Type 0 where
   pub layout : Layout
   pub rendered : text ≡ layout_text layout
-  pub read : read_layout text ≡ some layout
+  pub read : read_layout text ≡ Some layout
   pub count : length layout.tracks ≡ job.board.tracks
   pub planned : layout.tracks ≡ drawn_tracks job.board 1 plan
   pub wires_shortest : (i : ℕ) → i < job.board.tracks → Each (ShortestWire job (suc i)) (get_or layout.tracks i no_track).wires
@@ -54,6 +53,6 @@ pub record OptimalTrack (job : Job) (earlier : List ℕ) (t : ℕ) (tr : DrawnTr
 pub record UnbeatenText (job : Job) (text : List ℕ) : Type 0 where
   pub layout : Layout
   pub rendered : text ≡ layout_text layout
-  pub read : read_layout text ≡ some layout
+  pub read : read_layout text ≡ Some layout
   pub count : length layout.tracks ≡ job.board.tracks
   pub each : (i : ℕ) → i < job.board.tracks → OptimalTrack job (track_numbers (take i layout.tracks)) (suc i) (get_or layout.tracks i no_track)

@@ -2,7 +2,7 @@
 use Prim.Native.Nat.{ℕ, ◌+◌, ◌<◌}
 use mathlib.Core.Path.{◌≡◌, refl, sym, ap, ap₂, ◌∙◌}
 use mathlib.Core.Bool.{true≢false}
-use mathlib.Core.Option.{some}
+use Rattle.std.specs.Prelude.{Some}
 use mathlib.Core.List.{List, [], ◌∷◌, map, Memᴰ}
 use lib.Dec.{eqb}
 use borrow.Author.Tests.{eqb-true, eq-eqb}
@@ -25,17 +25,17 @@ unfolding wire_of
 wire_numbers_lem job t [] = refl
 wire_numbers_lem job t (p ∷ ps) = ap (λ (l : List ℕ). p.net.number ∷ l) (wire_numbers_lem job t ps)
 
-pub net_some : (job : Job) (k : ℕ) (n : Net) → net_numbered job k ≡ some n → (Memᴰ n job.nets) × (n.number ≡ k)
+pub net_some : (job : Job) (k : ℕ) (n : Net) → net_numbered job k ≡ Some n → (Memᴰ n job.nets) × (n.number ≡ k)
 unfolding net_numbered
 net_some job k n h = let f = first_of_some (λ m. eqb m.number k) job.nets n h in (f.0, eqb-true n.number k f.1)
 
 module _ (job : Job) (rise : EachPair (λ a b. a.number < b.number) job.nets) where
-  pub net_of : (n : Net) → Memᴰ n job.nets → net_numbered job n.number ≡ some n
+  pub net_of : (n : Net) → Memᴰ n job.nets → net_numbered job n.number ≡ Some n
   unfolding net_numbered
   net_of n i =
       by_option (net_numbered job n.number)
       (λ e. absurd (true≢false (sym (eq-eqb n.number n.number refl) ∙ first_of_none (λ m. eqb m.number n.number) job.nets n e i)))
-      (λ m e. let f = net_some job n.number m e in e ∙ ap some (same_number job.nets rise m n f.0 i f.1))
+      (λ m e. let f = net_some job n.number m e in e ∙ ap Some (same_number job.nets rise m n f.0 i f.1))
 
   pub weight_of_lem : (n : Net) → Memᴰ n job.nets → weight_of job n.number ≡ weight n
   unfolding weight_of weight_by

@@ -1,6 +1,5 @@
 -- Document 01, "A sound layout": rival sequences and sums over drawn wires.
-use Rattle.std.specs.Prelude.{ℕ, ◌+◌, ◌≡◌, List, [], ◌∷◌, ◌++◌, map}
-use Rattle.std.proofs.Math.Option.{Option, none, some}
+use Rattle.std.specs.Prelude.{ℕ, ◌+◌, ◌≡◌, List, [], ◌∷◌, ◌++◌, map, Option, None, Some}
 use Rattle.board.specs.declared.Net.{Net}
 use Rattle.board.specs.Weight.{weight}
 use Rattle.board.specs.Job.{Job}
@@ -18,8 +17,8 @@ pub record RivalWires (job : Job) (earlier : List ℕ) (t : ℕ) (ws : List Wire
 
 -- the weight of a net, 0 if there is none
 unfoldable pub weight_by : Option Net → ℕ
-weight_by none = 0
-weight_by (some n) = weight n
+weight_by None = 0
+weight_by (Some n) = weight n
 
 -- the weight of the net with number k, 0 if no net has it
 unfoldable pub weight_of : Job → ℕ → ℕ

@@ -8,7 +8,7 @@ use Rattle.board.specs.WorkedBoard.{worked_job}
 use Rattle.board.specs.TriedBoards.{tried_board, tried_net}
 use Rattle.board.proofs.Lengths.{rows_21, rows_20, rows_14, min_22, min_8}
 use Rattle.text.specs.Bytes.{bytes}
-use Rattle.jobfile.specs.declared.Outcome.TheVariants.{NotOfForm, NoLength}
+use Rattle.jobfile.specs.declared.Refusal.TheVariants.{NotOfForm, NoLength}
 use Rattle.jobfile.specs.Read.{board_of, empty_job}
 use Rattle.jobfile.specs.TextsRead.{read_as}
 use Rattle.jobfile.proofs.Texts.{worked_board}

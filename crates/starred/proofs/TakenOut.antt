@@ -7,7 +7,7 @@ use mathlib.Core.List.{List, [], ◌∷◌, Memᴰ}
 use Rattle.board.specs.declared.Net.{Net}
 use Rattle.board.specs.Job.{Job}
 use Rattle.board.specs.TriedBoards.{Tried}
-use Rattle.jobfile.specs.declared.Outcome.{Outcome}
+use Rattle.jobfile.specs.declared.Refusal.{Refusal}
 use Rattle.jobfile.specs.Read.{accepted, refused, read_job}
 use Rattle.jobfile.specs.Answers.{number_of, line_of}
 use Rattle.routing.specs.Route.{route_text}
@@ -41,7 +41,7 @@ module _ (text : List ℕ) (job : Job) (e : read_job text ≡ accepted job) wher
       true≢false z
 
 -- a text that is refused is refused with the stated number and line
-pub refused_as : (text : List ℕ) (o : Outcome) → read_job text ≡ refused o → (number line : ℕ) → RefusedWith text number line →
+pub refused_as : (text : List ℕ) (o : Refusal) → read_job text ≡ refused o → (number line : ℕ) → RefusedWith text number line →
     (number_of o ≡ number) × (line_of o ≡ line)
 refused_as text o e number line r =
     let q : refused r.outcome ≡ refused o = sym r.read ∙ e in

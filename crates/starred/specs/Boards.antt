@@ -5,7 +5,7 @@ use Rattle.board.specs.declared.Net.{Net}
 use Rattle.board.specs.Job.{Job}
 use Rattle.board.specs.TriedBoards.{Tried}
 use Rattle.text.specs.Bytes.{bytes}
-use Rattle.jobfile.specs.declared.Outcome.{Outcome}
+use Rattle.jobfile.specs.declared.Refusal.{Refusal}
 use Rattle.jobfile.specs.Read.{accepted, refused, read_job}
 use Rattle.jobfile.specs.Answers.{number_of, line_of}
 use Rattle.jobfile.specs.TextsRead.{worked_text}
@@ -41,7 +41,7 @@ pub record OneNet (text : List ℕ) (shortest_length stretch needed tops first l
 
 -- the text is refused with this number and this line
 pub record RefusedWith (text : List ℕ) (number line : ℕ) : Type 0 where
-  pub outcome : Outcome
+  pub outcome : Refusal
   pub read : read_job text ≡ refused outcome
   pub number_is : number_of outcome ≡ number
   pub line_is : line_of outcome ≡ line

@@ -9,6 +9,7 @@ use lib.ListN.{length, get_or, drop, drop_of_length-le}
 use lib.Seq.{drop-cons}
 use lib.Dec.{eqb}
 use borrow.Author.Tests.{not-true, eq-eqb, ne_eqb, eqb-true}
+use Rattle.std.specs.Cmp.Lexicographic.{pointwise}
 use Rattle.lists.specs.Lists.{all_of}
 use Rattle.lists.proofs.Cases.{by_test, and_split}
 use Rattle.text.specs.Bytes.{same, joined, pieces, non_empty, lines}
@@ -37,6 +38,15 @@ same_ne s t h = by_test (same s t) (λ e. absurd (h (same_true s t e))) (λ e. e
 
 pub same_false : (s t : List ℕ) → same s t ≡ false → s ≡ t → ⊥
 same_false s t e h = let z : ◌≡◌ {A = Bool} true false = sym (same_eq s t h) ∙ e in let o : ◌≡◌ {A = ℕ} 0 1 = cc in omega arith
+
+-- what `==` of two slices of bytes says is that they are the same
+
+pub compared : (s t : List ℕ) → pointwise eqb s t ≡ same s t
+unfolding same
+compared [] [] = refl
+compared [] (b ∷ t) = refl
+compared (a ∷ s) [] = refl
+compared (a ∷ s) (b ∷ t) = rw (compared s t)
 
 -- a comparison byte by byte: after j bytes that are the same, the rest decides
 

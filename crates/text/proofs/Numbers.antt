@@ -2,7 +2,7 @@
 use mathlib.Core.Path.{◌≡◌, refl, sym, ap, ◌∙◌}
 use mathlib.Core.Bool.{Bool, true}
 use mathlib.Core.List.{List, [], ◌∷◌, ◌++◌, append_assoc, append-nil}
-use mathlib.Core.Option.{some}
+use Rattle.std.specs.Prelude.{Some}
 use Prim.Native.Nat.{ℕ, zero, suc, ◌+◌, ◌-◌, ◌*◌, ◌/◌, ◌%◌, ◌≤◌, ◌<◌, ◌^◌}
 use native.Mathlib.Omega.{arith}
 use native.Mathlib.Decide.{dec_lt}
@@ -114,7 +114,7 @@ first_not_zero =
     (λ n a e h. rw (digits_large n a, get_or-append (digits (n / 10)) ((48 + n % 10) ∷ []) 0 0 (some_digits (n / 10))) (e (omega arith)))
 
 -- reading what was written gives it back
-pub number_digits : (k n : ℕ) → n < 10 ^ suc k → number (suc k) (digits n) ≡ some n
+pub number_digits : (k n : ℕ) → n < 10 ^ suc k → number (suc k) (digits n) ≡ Some n
 unfolding number
 number_digits k n h =
     simp (le-leb 1 (length (digits n)) (some_digits n), le-leb (length (digits n)) (suc k) (length_digits k n h), digits_are_digits n, value_digits n)

@@ -6,7 +6,7 @@ use native.Mathlib.Omega.{arith}
 use native.Mathlib.Numerals.{add-one}
 use native.Mathlib.Nat.{add_assoc}
 use lib.ListN.{length, get_or, take, drop, set, length-append, length-take, length-drop, length-set, drop_of_length-le, take-append-drop}
-use lib.Seq.{take_all, take-suc, set_split, length-take-le, take-append-add, drop-append-add, drop-cons, set-append_seam, append_snoc, take-append_seam, drop-append_seam, drop-drop}
+use lib.Seq.{take_all, set_split, length-take-le, take-append-add, drop-append-add, drop-cons, set-append_seam, append_snoc, take-append_seam, drop-append_seam, drop-drop}
 use borrow.Rule.Slice.PartMut.{mid_of, put_mid}
 use Rattle.text.specs.Digits.{digits, lead}
 use Rattle.text.specs.Written.{over, over_at, Written, WrittenAt}
@@ -49,17 +49,6 @@ over_byte w s d h = rw (drop-cons s (length w) 0 h, set-append_seam, append_snoc
 pub over_then : (a b s : List ℕ) → take (length a) (over a s) ++ over b (drop (length a) (over a s)) ≡ over (a ++ b) s
 over_then a b s = rw (take-append_seam, drop-append_seam, drop-drop, length-append, append_assoc)
 
--- A loop that copies w: after j bytes the buffer has `take j w` over its start
-
-pub copy_step : (w s t : List ℕ) (j b : ℕ) → t ≡ over (take j w) s → b ≡ get_or w j 0 → j < length w → length w ≤ length s → set t j b ≡ over (take (j + 1) w) s
-copy_step w s t j b e f h k =
-    let l : length (take j w) ≡ j = length-take-le j w (omega arith) in
-    rw (e, f, add-one, take-suc w j 0 h)
-    (ap (λ (n : ℕ). set (over (take j w) s) n (get_or w j 0)) (sym l) ∙ over_byte (take j w) s (get_or w j 0) (omega arith))
-
-pub copy_end : (w s t : List ℕ) (j : ℕ) → t ≡ over (take j w) s → length w ≤ j → t ≡ over w s
-copy_end w s t j e h = rw (e, take_all j w h)
-
 -- The rest of a buffer from the place p on, lent and given back. The borrow checker writes what is lent as `mid_of`, and what has
 -- come back as `put_mid`
 
@@ -68,6 +57,10 @@ lent_rest p s = take_all (length s - p) (drop p s) (omega (arith, length-drop p 
 
 pub back_rest : (p : ℕ) (s ys : List ℕ) → put_mid p (length s - p) s ys ≡ take p s ++ ys
 back_rest p s ys = rw (drop_of_length-le (drop p s) {i = length s - p} (omega (arith, length-drop p s)), append-nil)
+
+-- there is room in the rest for what there is room for from p on
+pub rest_room : (p : ℕ) (s : List ℕ) {n : ℕ} → p + n ≤ length s → n ≤ length (mid_of p (length s - p) s)
+rest_room p s h = rw (lent_rest p s) (omega (arith, length-drop p s))
 
 -- what was written over the start of the rest is written at p of the whole
 pub rest_written : (p : ℕ) (s ys text : List ℕ) (r : ℕ) → Written text (mid_of p (length s - p) s) ys r → put_mid p (length s - p) s ys ≡ over_at p text s

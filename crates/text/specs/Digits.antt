@@ -1,9 +1,6 @@
 -- Decimal numbers as bytes: how one is written, and how a word of one to a given number of digits is read.
-use Rattle.std.specs.Prelude.{Bool, cond, ◌&&◌, List, [], ◌∷◌, ◌++◌, ℕ, zero, suc, ◌+◌, ◌-◌, ◌*◌, ◌/◌, ◌%◌, length, leb, ltb}
-use Rattle.std.proofs.Math.Option.{Option, none, some}
+use Rattle.std.specs.Prelude.{Bool, cond, ◌&&◌, List, [], ◌∷◌, ◌++◌, ℕ, zero, suc, ◌+◌, ◌-◌, ◌*◌, ◌/◌, ◌%◌, length, leb, ltb, Option, None, Some}
 use Rattle.lists.specs.Lists.{all_of}
-use Rattle.text.specs.declared.Number.{Number}
-use Rattle.text.specs.declared.Number.TheVariants.{Value, Bad}
 
 -- the digits of n, where k bounds how often n is divided; k = n is always enough
 unfoldable pub digits_in : ℕ → ℕ → List ℕ
@@ -30,9 +27,4 @@ value_from acc (b ∷ bs) = value_from (acc * 10 + (b - 48)) bs
 
 -- a word of one to `most` digits is a number, leading zeros or not
 unfoldable pub number : ℕ → List ℕ → Option ℕ
-number most w = cond (leb 1 (length w) && leb (length w) most && all_of is_digit w) (some (value_from 0 w)) none
-
--- a number or none as the code's answer
-unfoldable pub as_number : Option ℕ → Number
-as_number none = Bad
-as_number (some n) = Value n
+number most w = cond (leb 1 (length w) && leb (length w) most && all_of is_digit w) (Some (value_from 0 w)) None

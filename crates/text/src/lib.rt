@@ -2,27 +2,16 @@
 #![tactic(auto)]
 
 ghost use Rattle.std.specs.Prelude.{◌≡◌, ◌∷◌, ◌+◌, ◌≤◌, ◌<◌, length};
-ghost use Rattle.text.specs.Digits.{digits, lead, number, as_number};
+ghost use Rattle.text.specs.Digits.{digits, lead, number};
 ghost use Rattle.text.specs.Written.{Written, WrittenAt};
-
-// What a word says as a number: its value, or that it is none.
-#[derive(Clone, Copy)]
-pub enum Number {
-    Value(usize),
-    Bad,
-}
 
 // Writes text at the start of out, and returns the bytes used.
 pub fn put_bytes(out: &mut [u8], text: &[u8]) -> usize
     requires { length text.now ≤ length out.old }
     ensures { Written text.now out.old out.new result }
 {
-    let mut j = 0;
-    while j < text.len() {
-        out[j] = text[j];
-        j += 1;
-    }
-    j
+    out[..text.len()].copy_from_slice(text);
+    text.len()
 }
 
 // Writes text from the place `at` on, into the rest of out, and returns the next place.
@@ -41,7 +30,7 @@ fn put_lead(out: &mut [u8], at: usize, n: usize) -> usize
     if n == 0 {
         return at;
     }
-    out[at] = 48 + (n % 10) as u8;
+    out[at] = b'0' + (n % 10) as u8;
     at + 1
 }
 
@@ -56,7 +45,7 @@ fn put_below_10000(out: &mut [u8], n: usize) -> usize
     let a = put_lead(out, 0, hundredth / 10);
     let b = put_lead(out, a, hundredth);
     let c = put_lead(out, b, tenth);
-    out[c] = 48 + (n % 10) as u8;
+    out[c] = b'0' + (n % 10) as u8;
     c + 1
 }
 
@@ -85,33 +74,24 @@ pub fn put_spaced(out: &mut [u8], at: usize, n: usize) -> usize
     requires { at + length (32 ∷ digits n) ≤ length out.old }
     ensures { WrittenAt at (32 ∷ digits n) out.old out.new result }
 {
-    out[at] = 32;
+    out[at] = b' ';
     put_number_at(out, at + 1, n)
 }
 
 // The number that s says in one to `most` digits.
-pub fn read_number(s: &[u8], most: usize) -> Number
+pub fn read_number(s: &[u8], most: usize) -> Option<usize>
     requires { most ≤ 6 }
-    ensures { result ≡ as_number (number most s.now) }
+    ensures { result ≡ number most s.now }
 {
-    if s.len() == 0 {
-        return Number::Bad;
+    if s.is_empty() || most < s.len() {
+        return None;
     }
-    if most < s.len() {
-        return Number::Bad;
-    }
-    let mut v: usize = 0;
-    let mut i = 0;
-    while i < s.len() {
-        let b = s[i];
-        if b < 48 {
-            return Number::Bad;
+    let mut v = 0;
+    for b in s {
+        match b {
+            b'0'..=b'9' => v = v * 10 + usize::from(b - b'0'),
+            _ => return None,
         }
-        if 57 < b {
-            return Number::Bad;
-        }
-        v = v * 10 + (b - 48) as usize;
-        i += 1;
     }
-    Number::Value(v)
+    Some(v)
 }

@@ -9,12 +9,8 @@ ghost use Rattle.texts.specs.Ends.{ends_text};
 pub fn text_end(s: &[u8], from: usize) -> usize
     ensures { (result ≡ scan ends_text s.now from) × (from ≤ result) × (result ≤ max from (length s.now)) }
 {
-    let mut i = from;
-    while i < s.len() {
-        if s[i] == 255 {
-            return i;
-        }
-        i += 1;
+    if s.len() <= from {
+        return from;
     }
-    i
+    lines::scan_to(s, from, |b| b == 255)
 }

@@ -1,22 +1,21 @@
-// The table of a track: which nets are eligible, and what the choice needs of each. The nets of the job are lent for it as a list of records.
+// The table of a track: what the choice needs of each eligible net. The nets of the job are lent for it as a list of records.
 #![tactic(auto)]
 
-ghost use Rattle.std.specs.Prelude.{◌≡◌, ℕ, ◌≤◌, ◌<◌, length, get_or};
+ghost use Rattle.std.specs.Prelude.{◌≡◌, length};
 ghost use Rattle.board.specs.Stored.{job_of, AcceptedStored};
 ghost use Rattle.board.specs.Accepted.{BoardInRange, AcceptedNet};
-ghost use Rattle.blockmap.specs.Clear.{flag};
-ghost use Rattle.candidates.specs.Placed.{preceding_of, eligible_at};
-ghost use Rattle.candidates.specs.Gathered.{TopsOf};
-ghost use Rattle.toptable.specs.TopsTable.{with_tops, with_all_tops, NetsLent, TableOf, tops_in};
+ghost use Rattle.candidates.specs.Placed.{preceding_of};
+ghost use Rattle.candidates.specs.Gathered.{tops_of};
+ghost use Rattle.toptable.specs.TopsTable.{tops_if, FirstTops, NetsLent, TableOf};
 
-use board::{Board, Net, Row, StoredJob};
-use candidates::{NetTops, is_eligible};
+use board::{Board, Net, StoredJob};
+use candidates::{NetTops, Wired, is_eligible};
 
 // What the choice needs of a net.
 pub fn tops_of(board: Board, net: Net) -> NetTops
     requires board_in_range { BoardInRange board }
     requires accepted_net { AcceptedNet board net }
-    ensures { TopsOf board net result }
+    ensures { result ≡ tops_of board net }
 {
     let shape = board::shortest(board, net);
     NetTops {
@@ -27,73 +26,55 @@ pub fn tops_of(board: Board, net: Net) -> NetTops
     }
 }
 
-// Which nets are eligible, in a new table of numbers: number i is 1 if net i is, otherwise 0. `put_tops` says what its other parts are for.
-fn eligible_nets(nnets: usize, before: &[usize; 512], placed: &[usize; 512]) -> [usize; 2560]
-    requires { (nnets ≤ 512) × ((k : ℕ) → k < nnets → get_or before.now k 0 ≤ 512) }
-    ensures { (k : ℕ) → k < nnets → get_or result k 0 ≡ flag (eligible_at (get_or before.now k 0) placed.now k) }
+// What the choice needs of a net, if the net is eligible.
+#[tactic(auto, unfolding(crate::specs::TopsTable::tops_if))]
+fn tops_if(eligible: bool, board: Board, net: Net) -> Option<NetTops>
+    requires board_in_range { BoardInRange board }
+    requires accepted_net { AcceptedNet board net }
+    ensures { result ≡ tops_if eligible board net }
 {
-    let mut table = [0usize; 2560];
-    for i in 0..nnets {
-        if is_eligible(before[i], placed, i) {
-            table[i] = 1;
-        }
-    }
-    table
-}
-
-// What the choice needs of net i, put into the table if the net is eligible there: its needed rows, its weight, and its first and
-// last top row stand 512, 1,024, 1,536 and 2,048 places behind number i.
-fn put_tops(board: Board, net: Net, i: usize, table: &mut [usize])
-    requires { (BoardInRange board) × (AcceptedNet board net) × (i < 512) × (2560 ≤ length table.old) }
-    ensures { table.new ≡ with_tops board net i table.old }
-{
-    if table[i] == 0 {
-        return;
-    }
-    let tops = tops_of(board, net);
-    table[i + 512] = tops.need;
-    table[i + 1024] = tops.weight;
-    table[i + 1536] = tops.first.0;
-    table[i + 2048] = tops.last.0;
-}
-
-// The nets of the job, lent as a list of records: each record goes to the placement rule, in its order.
-fn put_all_tops(nets: &[Net], board: Board, table: &mut [usize])
-    requires { NetsLent board nets.now table.old }
-    ensures { table.new ≡ with_all_tops board nets.now (length nets.now) table.old }
-{
-    let mut i: usize = 0;
-    while i < nets.len() {
-        put_tops(board, nets[i], i, table);
-        i += 1;
+    if eligible {
+        Some(tops_of(board, net))
+    } else {
+        None
     }
 }
 
-// The table of a track: which nets are eligible, and what the choice needs of each of those. The nets of the job are lent for it.
-pub fn tops_table(job: &StoredJob, before: &[usize; 512], placed: &[usize; 512]) -> [usize; 2560]
+// The nets of the job, lent as a list of records: each record goes to the placement rule, in its order, and what the choice needs of it
+// into the table, if it is eligible.
+fn put_all_tops(
+    nets: &[Net],
+    board: Board,
+    before: &[Option<usize>; 512],
+    stands: &[Option<Wired>; 512],
+    table: &mut [Option<NetTops>; 512],
+)
+    requires { NetsLent board nets.now before.now }
+    ensures { FirstTops board nets.now before.now stands.now (length nets.now) table.new }
+{
+    for (i, net) in nets.iter().enumerate() {
+        let eligible = is_eligible(before[i], stands, i);
+        table[i] = tops_if(eligible, board, *net);
+    }
+}
+
+// The table of a track: for each net of the job what the choice needs of it, if it is eligible. The nets of the job are lent for it.
+pub fn tops_table(
+    job: &StoredJob,
+    before: &[Option<usize>; 512],
+    stands: &[Option<Wired>; 512],
+) -> [Option<NetTops>; 512]
     requires accepted_stored { AcceptedStored job.now }
     requires before_value { before.now ≡ preceding_of (job_of job.now) }
-    ensures { TableOf job.now placed.now result }
+    ensures { TableOf (job_of job.now) stands.now result }
 {
-    let nets: &[Net] = &job.nets;
-    let mut table = eligible_nets(job.nnets, before, placed);
-    put_all_tops(&nets[..job.nnets], job.board, &mut table);
+    let mut table = [None; 512];
+    put_all_tops(
+        &job.nets[..job.nnets],
+        job.board,
+        before,
+        stands,
+        &mut table,
+    );
     table
-}
-
-// What the choice needs of net i, as it stands in the table.
-pub fn tops_in(table: &[usize; 2560], i: usize) -> NetTops
-    requires { i < 512 }
-    ensures { result ≡ tops_in table.now i }
-{
-    let need = table[i + 512];
-    let weight = table[i + 1024];
-    let first = table[i + 1536];
-    let last = table[i + 2048];
-    NetTops {
-        need,
-        weight,
-        first: Row(first),
-        last: Row(last),
-    }
 }

@@ -1,5 +1,6 @@
 -- The line of a broken layout: its parts and its length. Assumes nothing.
-use Prim.Native.Nat.{ℕ, zero, suc, ◌+◌, ◌≤◌, ◌<◌}
+use Rattle.std.specs.Prelude.{Err}
+use Prim.Native.Nat.{ℕ, zero, suc, ◌+◌, ◌<◌}
 use mathlib.Core.Path.{◌≡◌, refl, ap, ◌∙◌}
 use mathlib.Core.Bool.{Bool, true, false}
 use mathlib.Core.List.{List, [], ◌∷◌, ◌++◌, append_assoc}
@@ -7,13 +8,12 @@ use native.Mathlib.Omega.{arith}
 use lib.ListN.{length, length-append}
 use Rattle.text.specs.Digits.{digits}
 use Rattle.text.specs.Written.{Written}
-use Rattle.text.proofs.Writing.{kept}
-use Rattle.text.proofs.Numbers.{length_digits}
 use Rattle.reader.specs.Reports.{refused_text}
-use Rattle.reader.proofs.Reports.{refused_length}
-use Rattle.checker.specs.declared.CheckAnswer.{CheckAnswer}
+use Rattle.checker.specs.declared.CheckError.{CheckError}
+use Rattle.checker.specs.declared.CheckError.TheVariants.{Refused, LayoutTooLong, Broken}
+use Rattle.jobfile.proofs.RefusalNumbers.{number_above, number_below}
 use Rattle.checker.specs.Answers.{check_values}
-use Rattle.verdicts.specs.Verdicts.{broken_text, sound_line, verdict_line, check_text}
+use Rattle.verdicts.specs.Verdicts.{broken_text, verdict_line, check_text}
 
 -- "(broken"
 abbrev pub broken_head : List ℕ
@@ -36,30 +36,23 @@ unfolding verdict_line
 refusal_line zero b l h = absurd (h refl)
 refusal_line (suc n) b l h = refl
 
-pub broken_line : (n : ℕ) (b : Bool) (l : ℕ) → n ≡ 0 → b ≡ true → broken_text l ≡ verdict_line n b l
-unfolding verdict_line
-broken_line n b l e f = rw (e, f)
-
-pub sound_line_lem : (n : ℕ) (b : Bool) (l : ℕ) → n ≡ 0 → b ≡ false → sound_line ≡ verdict_line n b l
-unfolding verdict_line
-sound_line_lem n b l e f = rw (e, f)
-
--- every line fits 64 bytes
-pub line_room : (n : ℕ) (b : Bool) (l : ℕ) → n < 100000000000000000000 → l < 100000000000000000000 → length (verdict_line n b l) ≤ 64
-unfolding verdict_line
-line_room (suc n) b l h k = omega (arith, refused_length (suc n) l, length_digits 19 (suc n) h, length_digits 19 l k)
-line_room zero true l h k = omega (arith, broken_length l, length_digits 19 l k)
-line_room zero false l h k = omega arith
-
 -- a text written is written under another name
 pub written_as : {v w s t : List ℕ} {r : ℕ} → v ≡ w → Written v s t r → Written w s t r
 written_as e x = rw e at x
 
--- what the code holds: the values of an answer
-pub check_line_is : (a : CheckAnswer) (n : ℕ) (b : Bool) (l : ℕ) → n ≡ (check_values a).number → b ≡ (check_values a).broken → l ≡ (check_values a).line →
-    (x : CheckAnswer) → a ≡ x → verdict_line n b l ≡ check_text x
-check_line_is a n b l e f g x q = (rw (e, f, g, q))
+-- what is no broken layout is refused with a number, of at most two digits
+refused_number : (e : CheckError) → (check_values (Err e)).broken ≡ false → ((check_values (Err e)).number ≡ 0 → ⊥) × ((check_values (Err e)).number < 100)
+refused_number (Refused o) f = (λ z. omega (arith, z, number_above o), omega (arith, number_below o))
+refused_number LayoutTooLong f = (λ z. omega arith, omega arith)
+refused_number (Broken l) f = cc
 
--- what is printed stands within its bytes
-pub line_within : {w s t : List ℕ} {r : ℕ} → Written w s t r → length w ≤ length s → r ≤ length t
-line_within x h = omega (arith, x.used, kept x h)
+-- what is printed where the layout is broken, and where there is a refusal
+pub broken_is : (e : CheckError) {l : ℕ} → (check_values (Err e)).broken ≡ true → l ≡ (check_values (Err e)).line → broken_text l ≡ check_text (Err e)
+unfolding verdict_line
+broken_is (Refused o) f g = cc
+broken_is LayoutTooLong f g = cc
+broken_is (Broken m) f g = ap broken_text g
+
+pub refused_is : (e : CheckError) {n l : ℕ} → (check_values (Err e)).broken ≡ false → n ≡ (check_values (Err e)).number → l ≡ (check_values (Err e)).line →
+    refused_text n l ≡ check_text (Err e)
+refused_is e f g h = rw (g, h) (refusal_line _ _ _ (refused_number e f).0)

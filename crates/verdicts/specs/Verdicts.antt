@@ -1,8 +1,8 @@
 -- Document 01, "Operations": what the program `check` prints.
-use Rattle.std.specs.Prelude.{ℕ, zero, suc, Bool, true, false, List, [], ◌∷◌, ◌++◌}
+use Rattle.std.specs.Prelude.{ℕ, zero, suc, Bool, true, false, List, [], ◌∷◌, ◌++◌, Result}
 use Rattle.text.specs.Digits.{digits}
 use Rattle.reader.specs.Reports.{refused_text}
-use Rattle.checker.specs.declared.CheckAnswer.{CheckAnswer}
+use Rattle.checker.specs.declared.CheckError.{CheckError}
 use Rattle.checker.specs.Answers.{check_values}
 
 -- (broken line)
@@ -21,5 +21,5 @@ verdict_line zero true line = broken_text line
 verdict_line zero false line = sound_line
 
 -- what is printed for an answer
-abbrev pub check_text : CheckAnswer → List ℕ
+abbrev pub check_text : Result (Unit {0}) CheckError → List ℕ
 check_text a = verdict_line (check_values a).number (check_values a).broken (check_values a).line

@@ -1,11 +1,16 @@
 -- The texts of points in parts, as the writers write them, and their lengths; the points of a placement by its shape. Assumes nothing.
-use Prim.Native.Nat.{ℕ, ◌+◌, ◌*◌, ◌-◌, ◌≤◌}
-use mathlib.Core.Path.{◌≡◌, refl, sym, ap}
-use mathlib.Core.Bool.{Bool, true, false, cond}
-use mathlib.Core.List.{List, [], ◌∷◌, ◌++◌, append_assoc, append-nil}
+use Prim.Native.Nat.{ℕ, ◌+◌, ◌*◌, ◌-◌, ◌≤◌, ◌<◌}
+use mathlib.Core.Path.{◌≡◌, refl, sym, ap, ◌∙◌}
+use mathlib.Core.Bool.{Bool, true, false, cond, not, ◌&&◌}
+use mathlib.Core.List.{List, [], ◌∷◌, ◌++◌, append_assoc}
 use native.Mathlib.Omega.{arith}
-use lib.ListN.{length, length-append, take-append-drop}
-use lib.Dec.{ltb}
+use native.Mathlib.Numerals.{add-one}
+use lib.ListN.{length, get_or, drop, length-append, take-append-drop, drop_of_length-le}
+use lib.Seq.{drop-cons}
+use lib.Dec.{eqb, ltb}
+use borrow.Author.Tests.{not-true, not-false}
+use Rattle.std.specs.Ordering.{nat_cmp, is_lt}
+use Rattle.lists.proofs.Cases.{by_test}
 use Rattle.text.specs.Written.{WrittenAt}
 use Rattle.text.specs.Digits.{digits}
 use Rattle.board.specs.declared.Board.{Board}
@@ -18,7 +23,7 @@ use Rattle.board.specs.Length.{width, span, extra}
 use Rattle.board.proofs.ShortestShape.{fixed_rows}
 use Rattle.layout.specs.declared.Point.{Point}
 use Rattle.layout.specs.Drawing.{at, same_point, via_column, wire_column, near_row, far_row, corners}
-use Rattle.wirepoints.specs.Points.{point_text, next_text, three_text, tail_text, path_text, pin_text, plain_path, stretched_path, points_text, Drawable}
+use Rattle.wirepoints.specs.Points.{point_text, next_text, path_text, pin_text, plain_path, stretched_path, points_text, Drawable}
 
 pub point_parts : (p : Point) → point_text p ≡ (((32 ∷ 40 ∷ []) ++ digits p.column) ++ (32 ∷ digits p.row)) ++ (41 ∷ [])
 unfolding point_text
@@ -27,10 +32,6 @@ point_parts p = simp append_assoc
 pub point_length : (p : Point) → length (point_text p) ≡ 4 + length (digits p.column) + length (digits p.row)
 unfolding point_text
 point_length p = simp length-append (omega arith)
-
-pub three_length : (p q r s : Point) → length (three_text p q r s) ≡ length (next_text p q) + length (next_text q r) + length (next_text r s)
-unfolding three_text
-three_length p q r s = simp length-append (omega arith)
 
 -- a point behind an equal one is left out, and nothing is written
 pub next_same : (p q : Point) (at : ℕ) (s : List ℕ) → same_point p q ≡ true → WrittenAt at (next_text p q) s s at
@@ -41,20 +42,29 @@ pub next_other : (p q : Point) → same_point p q ≡ false → next_text p q �
 unfolding next_text
 next_other p q e = rw e
 
--- the points of a plain wire are the pin and three more; those of a stretched one the pin, three, and those behind them
-pub plain_parts : (c w l r : ℕ) → pin_text l (plain_path c w l r) ≡ point_text (at 0 l) ++ three_text (at 0 l) (at c l) (at c r) (at w r)
-unfolding pin_text path_text three_text
-plain_parts c w l r = simp (append_assoc, append-nil)
+-- what the test of two points says, and the point behind written or left out
+pub differ : (p q : Point) {b : Bool} → b ≡ not (eqb p.column q.column && eqb p.row q.row) → b ≡ true → next_text p q ≡ point_text q
+unfolding same_point
+differ p q e f = next_other p q (not-true _ (sym e ∙ f))
 
-pub stretched_parts : (c w l r u v : ℕ) → pin_text l (stretched_path c w l r u v) ≡
-    (point_text (at 0 l) ++ three_text (at 0 l) (at c l) (at c u) (at (c + 1) u)) ++ tail_text c w (at (c + 1) u) r v
-unfolding pin_text path_text three_text tail_text
-stretched_parts c w l r u v = simp (append_assoc, append-nil)
+pub left_out : (p q : Point) {b : Bool} (at : ℕ) (s : List ℕ) → b ≡ not (eqb p.column q.column && eqb p.row q.row) → b ≡ false → WrittenAt at (next_text p q) s s at
+unfolding same_point
+left_out p q at s e f = next_same p q at s (not-false _ (sym e ∙ f))
 
--- those are three and one more
-pub tail_parts : (c w : ℕ) (p : Point) (r v : ℕ) → tail_text c w p r v ≡ three_text p (at (c + 1) v) (at c v) (at c r) ++ next_text (at c r) (at w r)
-unfolding tail_text
-tail_parts c w p r v = refl
+-- the points from place i on begin with the one there
+pub path_step : (p : Point) (ps : List Point) (i : ℕ) (d : Point) → i < length ps → path_text p (drop i ps) ≡ next_text p (get_or ps i d) ++ path_text (get_or ps i d) (drop (i + 1) ps)
+unfolding path_text
+path_step p ps i d h = ap (path_text p) (drop-cons ps i d h) ∙ ap (λ k. next_text p (get_or ps i d) ++ path_text (get_or ps i d) (drop k ps)) (sym (add-one i))
+
+-- behind the last there is none
+pub path_last : (p : Point) (ps : List Point) (i : ℕ) → length ps ≤ i → path_text p (drop i ps) ≡ []
+unfolding path_text
+path_last p ps i h = rw (drop_of_length-le ps {i = i} h)
+
+-- the points of a wire are the pin and those behind it
+pub pin_parts : (l : ℕ) (ps : List Point) → pin_text l ps ≡ point_text (at 0 l) ++ path_text (at 0 l) ps
+unfolding pin_text
+pin_parts l ps = refl
 
 -- ---- the points of a placement by its shape, where the code holds the width w and the rows m between the pins
 
@@ -78,6 +88,13 @@ module _ (board : Board) (t : Track) (net : Net) (shape : Shape) (top : Row) (w 
   bottom_small d =
       let x : extra shape ≡ e = ap extra s in
       omega (arith, span_is, fixed_rows board net d.net_range, d.board_range, d.stretch_range, d.top_range)
+
+-- which pin is above, as the order of rows tells it
+below_is : (l r : ℕ) → is_lt (nat_cmp l r) ≡ ltb l r
+below_is l r = by_test (ltb l r) (λ e. rw e) (λ e. by_test (eqb l r) (λ f. rw (e, f)) (λ f. rw (e, f)))
+
+pub above : (l r : ℕ) {a b : Bool} → a ≡ is_lt (nat_cmp l r) → a ≡ b → ltb l r ≡ b
+above l r e f = sym (below_is l r) ∙ sym e ∙ f
 
 -- a text is written under another name
 pub written_at_as : {x y s t : List ℕ} {at r : ℕ} → x ≡ y → WrittenAt at x s t r → WrittenAt at y s t r

@@ -20,15 +20,6 @@ point_text p = 32 ∷ 40 ∷ (digits p.column ++ (32 ∷ (digits p.row ++ (41 �
 unfoldable pub next_text : Point → Point → List ℕ
 next_text p q = cond (same_point p q) [] (point_text q)
 
--- three points behind point p, each left out where it is equal to the one before
-unfoldable pub three_text : Point → Point → Point → Point → List ℕ
-three_text p q r s = (next_text p q ++ next_text q r) ++ next_text r s
-
--- the points of a stretched wire behind p, the one where its stretched part begins: that part's end at row v, the via column c at rows v and r,
--- and the right pins in column w
-unfoldable pub tail_text : ℕ → ℕ → Point → ℕ → ℕ → List ℕ
-tail_text c w p r v = three_text p (at (c + 1) v) (at c v) (at c r) ++ next_text (at c r) (at w r)
-
 -- points behind point p, each left out where it is equal to the one before
 unfoldable pub path_text : Point → List Point → List ℕ
 path_text p [] = []

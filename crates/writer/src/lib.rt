@@ -1,16 +1,14 @@
-// The inner lines of a layout, each written into the rest of a lent buffer; a writer is told the place and returns the next one.
+// The inner lines of a layout: each writer writes its line at the start of the rest of a buffer that it is lent, and returns the bytes used.
 #![tactic(auto)]
 
-ghost use Rattle.std.specs.Prelude.{◌+◌, ◌≤◌, length};
-ghost use Rattle.text.specs.Written.{Written, WrittenAt};
+ghost use Rattle.std.specs.Prelude.{◌≤◌, length};
+ghost use Rattle.text.specs.Written.{Written};
 ghost use Rattle.writer.specs.Lines.{wire_line, Drawable, ended_line};
 ghost use Rattle.layout.specs.Tree.{track as track_of, loose as loose_of};
 
 use board::{Board, Net, Row, Shape, Track};
 use keywords::Vocabulary;
 use wirepoints::put_points;
-
-// The line writers: each writes its line at the start of the rest of the buffer that it is lent, and returns the bytes used.
 
 // Writes the line of a wire.
 pub fn wire_line(
@@ -25,8 +23,7 @@ pub fn wire_line(
     requires top_in_bounds { length (wire_line board track net shape top) ≤ length out.old }
     ensures { Written (wire_line board track net shape top) out.old out.new result }
 {
-    let number = net.number;
-    let a = linewriter::put_head(out, 0, Vocabulary::Layout, 2, number);
+    let a = linewriter::put_head(out, 0, Vocabulary::Layout, 2, net.number);
     let b = put_points(out, a, board, track, net, shape, top);
     text::put_bytes_at(out, b, b")\n")
 }
@@ -36,8 +33,7 @@ pub fn track_line(out: &mut [u8], track: Track, sum: usize) -> usize
     requires { length (ended_line (track_of track.0 sum)) ≤ length out.old }
     ensures { Written (ended_line (track_of track.0 sum)) out.old out.new result }
 {
-    let t = track.0;
-    let a = linewriter::put_head(out, 0, Vocabulary::Layout, 1, t);
+    let a = linewriter::put_head(out, 0, Vocabulary::Layout, 1, track.0);
     let b = text::put_spaced(out, a, sum);
     text::put_bytes_at(out, b, b")\n")
 }
@@ -49,39 +45,4 @@ pub fn loose_line(out: &mut [u8], number: usize) -> usize
 {
     let a = linewriter::put_head(out, 0, Vocabulary::Layout, 3, number);
     text::put_bytes_at(out, a, b")\n")
-}
-
-// The same with a place: the rest of the buffer from there on is lent to the line writer. Each returns the next place.
-
-// Writes the line of a wire from a place on.
-pub fn put_wire(
-    out: &mut [u8],
-    at: usize,
-    board: Board,
-    track: Track,
-    net: Net,
-    shape: Shape,
-    top: Row,
-) -> usize
-    requires drawable { Drawable board track net shape top }
-    requires top_in_bounds { at + length (wire_line board track net shape top) ≤ length out.old }
-    ensures { WrittenAt at (wire_line board track net shape top) out.old out.new result }
-{
-    at + wire_line(&mut out[at..], board, track, net, shape, top)
-}
-
-// Writes the line of a track from a place on.
-pub fn put_track(out: &mut [u8], at: usize, track: Track, sum: usize) -> usize
-    requires { at + length (ended_line (track_of track.0 sum)) ≤ length out.old }
-    ensures { WrittenAt at (ended_line (track_of track.0 sum)) out.old out.new result }
-{
-    at + track_line(&mut out[at..], track, sum)
-}
-
-// Writes the line of a loose net from a place on.
-pub fn put_loose(out: &mut [u8], at: usize, number: usize) -> usize
-    requires { at + length (ended_line (loose_of number)) ≤ length out.old }
-    ensures { WrittenAt at (ended_line (loose_of number)) out.old out.new result }
-{
-    at + loose_line(&mut out[at..], number)
 }

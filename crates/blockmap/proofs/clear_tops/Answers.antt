@@ -13,7 +13,6 @@ use Rattle.blockmap.specs.Bits.{is_set}
 use Rattle.blockmap.proofs.ClearRows.{clear_none, clear_more, clear_of, blocked_in}
 use Rattle.blockmap.proofs.ClearTops.{flags_none, flags_more, flags_skip, flags_all, flags_over}
 use Rattle.blockmap.proofs.clear_tops.Goals as goal
-use Rattle.blockmap.proofs.clear_tops.Goals.{then-known-top, else-known-top}
 
 -- the rows covered from the top on are clear
 abbrev is_clear_top : List ℕ → ℕ → ℕ → Bool
@@ -46,20 +45,12 @@ tops-preserved-then-top-blocked c =
 
 pub loop-row-init : goal.loop-row-init
 loop-row-init c =
-    elim c.if-known-top.branch [
-      | then-known-top w ↦ record {
-        in_scan = omega arith;
-        from_top = omega arith;
-        clear = λ row h k. absurd (omega arith);
-        below = omega arith;
-      }
-      | else-known-top w ↦ record {
-        in_scan = omega arith;
-        from_top = omega arith;
-        clear = λ row h k. c.tops.invariant.clear row h (omega arith);
-        below = omega arith;
-      }
-    ]
+    record {
+      in_scan = omega arith;
+      from_top = omega arith;
+      clear = λ row h k. c.tops.invariant.clear row h (omega arith);
+      below = omega arith;
+    }
 
 -- a blocked row met: the top is given up
 pub tops-preserved-then-is_blocked : goal.tops-preserved-then-is_blocked

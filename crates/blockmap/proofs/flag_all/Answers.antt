@@ -1,29 +1,23 @@
--- `blockmap::flag_all` meets its contract: before each turn of the loop the bytes of the tops passed are as `clear` says, and every other is as it
--- was. Assumes nothing.
-use Prim.Native.Nat.{◌+◌}
-use mathlib.Core.Path.{refl}
+-- `blockmap::flag_all` meets its contract: the part of the flags is filled with the byte. Assumes nothing.
+use Prim.Native.Nat.{◌-◌}
+use mathlib.Core.Path.{◌≡◌, refl, ◌∙◌}
+use mathlib.Core.Bool.{Bool, true, false}
 use native.Mathlib.Omega.{arith}
-use borrow.Author.Rules.{rules}
-use Rattle.blockmap.proofs.ClearTops.{flags_none, flags_more, flags_all}
+use lib.ListN.{length, length-take, length-drop}
+use borrow.Rule.Slice.PartMut.{mid_of}
+use mir.Val.{bool_byte}
+use Rattle.blockmap.specs.Clear.{flag}
+use Rattle.blockmap.proofs.ClearTops.{filled}
 use Rattle.blockmap.proofs.flag_all.Goals as goal
 
-pub loop-top-init : goal.loop-top-init
-loop-top-init c =
-    let a = c.args in record {
-      same_length = refl;
-      written = flags_none (λ t. a.clear) a.first.0 a.flags.now;
-    }
-
-pub loop-top-preserved : goal.loop-top-preserved
-loop-top-preserved c =
-    let a = c.args in
-    let l = c.loop-top in record {
-      same_length = search rules;
-      written = rw c.byte_of-byte.ensures (flags_more (λ t. a.clear) a.first.0 a.flags.now l.flags l.top a.clear (omega arith) l.invariant.written refl);
-    }
+byte_is : (b : Bool) → bool_byte b ≡ flag b
+byte_is true = refl
+byte_is false = refl
 
 pub returns : goal.returns
 returns c =
     let a = c.args in
-    let l = c.loop-top in
-    flags_all (λ t. a.clear) a.first.0 a.flags.now l.flags a.last.0 (a.last.0 + 1) l.top l.invariant.written (omega arith) (omega arith) refl
+    let p = a.first.0 - 1 in
+    let room : length (mid_of p (a.last.0 - p) a.flags.now) ≡ a.last.0 - p = simp (length-take, length-drop) (omega arith) in
+    filled a.clear a.first.0 a.last.0 c.from.result _ a.flags.now c.fill.new.self (omega arith) (omega arith) (omega arith)
+    (c.from.ensures ∙ byte_is a.clear) room (c.fill.ensures.after (λ y e. e))

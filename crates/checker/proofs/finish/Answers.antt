@@ -1,16 +1,11 @@
 -- `checker::finish` meets its contract. Assumes nothing.
-use mathlib.Core.Path.{ap, ◌∙◌}
-use Rattle.judging.specs.declared.LinesJudged.{LinesJudged}
-use Rattle.checker.specs.declared.CheckAnswer.TheVariants as Is
 use Rattle.checker.proofs.LayoutLeft.{ends_sound, ends_early}
 use Rattle.checker.proofs.finish.Goals as goal
 
-pub returns-then-m-eq-FINISHED : goal.returns-then-m-eq-FINISHED
-returns-then-m-eq-FINISHED c =
-    let a = c.args in
-    λ job st stands k. ends_sound job st a.m stands a.line k c.if-m-eq-FINISHED.true
+pub returns-in-Finished : goal.returns-in-Finished
+returns-in-Finished c = λ job st stands k. ends_sound job st stands c.args.line (rw c.in-Finished.is at k)
 
-pub returns : goal.returns
-returns c =
+pub returns-in_default : goal.returns-in_default
+returns-in_default c =
     let a = c.args in
-    λ job st stands k. ap (λ (j : LinesJudged). Is.Broken j.breach) c.closed-closed.ensures ∙ ends_early job st a.m stands a.line k c.if-m-eq-FINISHED.false
+    λ job st stands k. rw c.closed.ensures (ends_early job st a.m stands a.line k c.in_default.not-Finished)

@@ -1,117 +1,128 @@
 -- `checker::judge_lines` meets its contract: before each turn of the loop the lines that are left decide. Assumes nothing.
 use Prim.Native.Nat.{ℕ, ◌+◌}
-use mathlib.Core.Path.{◌≡◌, refl, sym, subst, ◌∙◌}
+use mathlib.Core.Path.{◌≡◌, refl, sym, ap, subst, ◌∙◌}
 use native.Mathlib.Omega.{arith}
-use lib.ListN.{length}
 use borrow.Author.Rules.{rules}
+use Rattle.std.specs.Prelude.{Ok, Err}
+use Rattle.std.proofs.lemmas.Result.{err_from_is_err_and}
+use Rattle.board.specs.declared.Track.{Track}
 use Rattle.board.specs.Stored.{job_of}
 use Rattle.lines.specs.Stepped.{Stepped}
 use Rattle.judging.specs.Judged.{KeepsStep}
-use Rattle.judging.specs.Values.{MapOf}
+use Rattle.judging.specs.Values.{track_of, MapOf}
 use Rattle.drc.specs.Pass.{pass_step}
 use Rattle.layoutsteps.specs.LayoutSteps.{line_read, form_number}
-use Rattle.layoutsteps.proofs.NetsFound.{FoundAt, nets_counted, found_at}
-use Rattle.checker.proofs.LayoutLeft.{left_start, left_moved, left_line, left_broken, left_more, left_over, answer_broken, answer_end}
+use Rattle.layoutsteps.proofs.NetsFound.{FoundAt, found_at}
+use Rattle.checker.specs.declared.CheckError.TheVariants.{Broken}
+use Rattle.checker.proofs.LayoutLeft.{line_of, left_start, left_moved, left_line, left_broken, left_more, left_over, answer_broken, answer_end}
 use Rattle.checker.proofs.judge_lines.Goals as goal
-use Rattle.checker.proofs.judge_lines.Goals.{In-Read, After-net_found-net, After-take_line-m}
+use Rattle.checker.proofs.judge_lines.Goals.{In-Some, After-find_net-found, After-take_line-led}
 
 -- the step over the line that was read
-moved_at : (c : In-Read) → Stepped c.args.text.now c.loop-form.place c.in-Read.from c.in-Read.to c.in-Read.next
-moved_at c = left_moved _ _ _ _ _ _ c.loop-form.invariant _ _ _ _ c.in-Read.ensures
+moved_at : (c : In-Some) → Stepped c.args.text.now c.loop-read.place (line_of c.in-Some.read)
+moved_at c = left_moved _ _ _ _ _ _ c.loop-read.invariant _ c.in-Some.ensures
 
 -- its net
-looked : (c : After-net_found-net) → FoundAt c.args.job.now (form_number c.in-Read.form) c.net_found-net.result
+looked : (c : After-find_net-found) → FoundAt (job_of c.args.job.now) (form_number c.in-Some.read.form) c.find_net-found.result
 looked c =
     let a = c.args in
-    let size : length a.job.now.nets ≡ 512 = search rules in
-    found_at a.job.now a.numbers.now a.before.now c.requires.net_tables size _ c.find_slot-at.result c.find_slot-at.ensures
-    c.net_found-net.result c.net_found-net.ensures
+    found_at a.job.now a.numbers.now a.before.now c.requires.net_tables _ c.find_net-found.result c.find_net-found.ensures
 
 -- what it leads to
-led_at : (c : After-take_line-m) → FoundAt c.args.job.now (form_number c.in-Read.form) c.net_found-net.result →
+led_at : (c : After-take_line-led) → FoundAt (job_of c.args.job.now) (form_number c.in-Some.read.form) c.find_net-found.result →
     KeepsStep (job_of c.args.job.now)
-    (pass_step (job_of c.args.job.now) (c.loop-form.place.passed + 1) c.loop-form.invariant.state
-    (line_read c.args.text.now c.in-Read.from c.in-Read.to c.in-Read.next.at))
-    c.take_line-m.result c.take_line-m.new.stands
+    (pass_step (job_of c.args.job.now) (c.loop-read.place.passed + 1) c.loop-read.invariant.state
+    (line_read c.args.text.now c.in-Some.read.from c.in-Some.read.to c.in-Some.read.next.at))
+    c.take_line-led.result c.take_line-led.new.stands
 led_at c f =
     let a = c.args in
-    let w = c.loop-form.invariant in
+    let w = c.loop-read.invariant in
     let t = c.requires.net_tables.accepted in
-    let size : length a.job.now.nets ≡ 512 = search rules in
-    c.take_line-m.ensures.keeps_step (job_of a.job.now) w.state _ t.accepted refl (nets_counted a.job.now t size) f.of_job
-    (left_line _ _ _ _ _ _ w _ _ _ _ c.in-Read.ensures) w.map w.keeps
+    c.take_line-led.ensures.keeps_step (job_of a.job.now) w.state _ t.accepted refl refl f.of_job
+    (left_line _ _ _ _ _ _ w _ c.in-Some.ensures) w.map w.keeps
 
-pub loop-form-init : goal.loop-form-init
-loop-form-init c =
+pub loop-read-init : goal.loop-read-init
+loop-read-init c =
     let a = c.args in
-    left_start (job_of a.job.now) a.text.now _ _ _ c.requires.net_tables.accepted.accepted.nets_count c.unbegun-m.ensures c.block_map-map.ensures
+    left_start (job_of a.job.now) a.text.now _ _ c.requires.net_tables.accepted.accepted.nets_count c.block_map-map.ensures
     c.start-place.ensures.0 c.start-place.ensures.1
-
-pub returns-in_default : goal.returns-in_default
-returns-in_default c =
-    let job = job_of c.args.job.now in
-    let w = c.loop-form.invariant in
-    c.finish.ensures job w.state _ w.keeps ∙
-    answer_end job c.requires.net_tables.accepted.accepted _ _ (left_over _ _ _ _ _ _ w (sym c.in_default.is ∙ c.line_at.ensures))
 
 pub slice_bounds-s-count : goal.slice_bounds-s-count
 slice_bounds-s-count c =
     let here = goal.at.slice_bounds-s-count c in
-    let t = moved_at here.In-Read in omega arith
+    let t = moved_at here.In-Some in omega arith
 
 pub slice_bounds-s-start : goal.slice_bounds-s-start
 slice_bounds-s-start c =
     let here = goal.at.slice_bounds-s-start c in
-    let t = moved_at here.In-Read in omega arith
+    let t = moved_at here.In-Some in omega arith
 
 pub slice_bounds-s-end : goal.slice_bounds-s-end
 slice_bounds-s-end c =
     let here = goal.at.slice_bounds-s-end c in
-    let t = moved_at here.In-Read in omega arith
+    let t = moved_at here.In-Some in omega arith
 
-pub take_line-m-requires-clause-found_fits : goal.take_line-m-requires-clause-found_fits
-take_line-m-requires-clause-found_fits c =
-    let here = goal.at.take_line-m-requires-clause-found_fits c in
-    (looked here.After-net_found-net).fits
+pub take_line-led-requires-clause-found_fits : goal.take_line-led-requires-clause-found_fits
+take_line-led-requires-clause-found_fits c =
+    let here = goal.at.take_line-led-requires-clause-found_fits c in
+    (looked here.After-find_net-found).fits
 
-pub take_line-m-requires-clause-count_bound : goal.take_line-m-requires-clause-count_bound
-take_line-m-requires-clause-count_bound c =
-    let here = goal.at.take_line-m-requires-clause-count_bound c in (
-      c.requires.net_tables.accepted.nets_room,
+pub take_line-led-requires-clause-count_bound : goal.take_line-led-requires-clause-count_bound
+take_line-led-requires-clause-count_bound c =
+    let here = goal.at.take_line-led-requires-clause-count_bound c in (
+      c.requires.net_tables.accepted.accepted.nets_count,
       record {
         line = _;
-        line_is = left_line _ _ _ _ _ _ c.loop-form.invariant _ _ _ _ c.in-Read.ensures;
-        number_is = (looked here.After-net_found-net).number_is;
+        line_is = left_line _ _ _ _ _ _ c.loop-read.invariant _ c.in-Some.ensures;
+        number_is = (looked here.After-find_net-found).number_is;
       },
     )
 
-pub returns-then-m-eq-DECIDED : goal.returns-then-m-eq-DECIDED
-returns-then-m-eq-DECIDED c =
-    let here = goal.at.returns-then-m-eq-DECIDED c in
-    answer_broken (job_of c.args.job.now) c.requires.net_tables.accepted.accepted _ _
-    (left_broken _ _ _ _ _ _ c.loop-form.invariant _ _ _ _ c.in-Read.ensures _ _ (led_at here.After-take_line-m (looked here.After-net_found-net)) c.if-m-eq-DECIDED.true)
+pub returns-in_err-m : goal.returns-in_err-m
+returns-in_err-m c =
+    let here = goal.at.returns-in_err-m c in
+    let job = job_of c.args.job.now in
+    let broken : (l : ℕ) × (c.take_line-led.result ≡ Err l) × (c.in_err-m.field-0.0 ≡ Broken l) = search rules in
+    let led = rw broken.1 at (led_at here.After-take_line-led (looked here.After-find_net-found)) in
+    let p = err_from_is_err_and c.from_residual.result c.from_residual.ensures.1 in
+    rw (p.1, p.2, broken.2)
+    (answer_broken job c.requires.net_tables.accepted.accepted _ broken.0 (left_broken _ _ _ _ _ _ c.loop-read.invariant _ c.in-Some.ensures broken.0 _ led))
 
-pub loop-form-smaller-then-m-above : goal.loop-form-smaller-then-m-above
-loop-form-smaller-then-m-above c =
-    let here = goal.at.loop-form-smaller-then-m-above c in
-    let t = moved_at here.In-Read in
+pub loop-read-smaller-then-track-above : goal.loop-read-smaller-then-track-above
+loop-read-smaller-then-track-above c =
+    let here = goal.at.loop-read-smaller-then-track-above c in
+    let t = moved_at here.In-Some in
     omega (arith, t.ahead, t.within)
 
-pub loop-form-preserved-then-m-above : goal.loop-form-preserved-then-m-above
-loop-form-preserved-then-m-above c =
-    let here = goal.at.loop-form-preserved-then-m-above c in
-    let w = c.loop-form.invariant in
-    left_more _ _ _ _ _ _ w _ _ _ _ c.in-Read.ensures _ _ (led_at here.After-take_line-m (looked here.After-net_found-net)) _ c.if-m-eq-DECIDED.false c.take_line-m.ensures.judged_in_range_2
-    (subst (λ (t : ℕ). MapOf (job_of c.args.job.now) t c.loop-form.map.words) (sym c.if-m-above.true) w.map)
+pub loop-read-preserved-then-track-above : goal.loop-read-preserved-then-track-above
+loop-read-preserved-then-track-above c =
+    let here = goal.at.loop-read-preserved-then-track-above c in
+    let went : c.take_line-led.result ≡ Ok c.in_ok-m.m = search rules in
+    left_more _ _ _ _ _ _ c.loop-read.invariant _ c.in-Some.ensures _ _ _
+    (rw went at (led_at here.After-take_line-led (looked here.After-find_net-found)))
+    (rw went at c.take_line-led.ensures.judged_in_range)
+    (subst (λ (t : Track). MapOf (job_of c.args.job.now) t.0 c.block_map-map-then-track-above.result.words) c.track-track.ensures c.block_map-map-then-track-above.ensures)
 
-pub loop-form-smaller : goal.loop-form-smaller
-loop-form-smaller c =
-    let here = goal.at.loop-form-smaller c in
-    let t = moved_at here.In-Read in
+pub loop-read-smaller : goal.loop-read-smaller
+loop-read-smaller c =
+    let here = goal.at.loop-read-smaller c in
+    let t = moved_at here.In-Some in
     omega (arith, t.ahead, t.within)
 
-pub loop-form-preserved : goal.loop-form-preserved
-loop-form-preserved c =
-    let here = goal.at.loop-form-preserved c in
-    left_more _ _ _ _ _ _ c.loop-form.invariant _ _ _ _ c.in-Read.ensures _ _ (led_at here.After-take_line-m (looked here.After-net_found-net)) _ c.if-m-eq-DECIDED.false c.take_line-m.ensures.judged_in_range_2
-    c.block_map-map-in-loop-form.ensures
+pub loop-read-preserved : goal.loop-read-preserved
+loop-read-preserved c =
+    let here = goal.at.loop-read-preserved c in
+    let w = c.loop-read.invariant in
+    let went : c.take_line-led.result ≡ Ok c.in_ok-m.m = search rules in
+    let same : (track_of c.loop-read.m).0 ≡ (track_of c.in_ok-m.m).0 = ap (λ (t : Track). t.0) (sym c.track-above.ensures) ∙ sym c.if-track-above.false ∙ ap (λ (t : Track). t.0) c.track-track.ensures in
+    left_more _ _ _ _ _ _ w _ c.in-Some.ensures _ _ _
+    (rw went at (led_at here.After-take_line-led (looked here.After-find_net-found)))
+    (rw went at c.take_line-led.ensures.judged_in_range)
+    (subst (λ (t : ℕ). MapOf (job_of c.args.job.now) t c.loop-read.map.words) same w.map)
+
+pub returns : goal.returns
+returns c =
+    let job = job_of c.args.job.now in
+    let w = c.loop-read.invariant in
+    c.finish.ensures job w.state _ w.keeps ∙
+    answer_end job c.requires.net_tables.accepted.accepted _ _ (left_over _ _ _ _ _ _ w (sym c.in_default.is ∙ c.line_at.ensures))

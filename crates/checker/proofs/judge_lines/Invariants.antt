@@ -5,8 +5,8 @@ use Rattle.board.specs.Stored.{job_of}
 use Rattle.checker.proofs.LayoutLeft.{LayoutLeft}
 use Rattle.checker.proofs.judge_lines.Given as goal
 
-abbrev pub invariant-loop-form : goal.invariant-loop-form
-invariant-loop-form l = LayoutLeft (job_of l.job) l.text l.m l.stands l.map.words l.place
+abbrev pub invariant-loop-read : goal.invariant-loop-read
+invariant-loop-read l = LayoutLeft (job_of l.job) l.text l.m l.stands l.map.words l.place
 
-abbrev pub decreases-loop-form : goal.decreases-loop-form
-decreases-loop-form l = length l.text - l.place.at
+abbrev pub decreases-loop-read : goal.decreases-loop-read
+decreases-loop-read l = length l.text - l.place.at

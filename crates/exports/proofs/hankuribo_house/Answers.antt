@@ -4,4 +4,5 @@ use Rattle.exports.proofs.hankuribo_house.Goals as goal
 
 pub returns : goal.returns
 returns c =
-    house_given _ c.args.out.now _ _ c.house-fixed.ensures _ _ _ c.answer_number.ensures c.answer_line.ensures c.answer_bytes.ensures
+    let r = c.reply.ensures in
+    house_given _ c.args.out.now _ _ c.house.ensures _ _ _ r.number_is r.line_is r.bytes_is

@@ -4,4 +4,5 @@ use Rattle.exports.proofs.hankuribo_route.Goals as goal
 
 pub returns : goal.returns
 returns c =
-    reply_given _ c.args.out.now _ _ c.route-answer.ensures _ _ _ c.answer_number.ensures c.answer_line.ensures c.answer_bytes.ensures
+    let r = c.reply.ensures in
+    reply_given _ c.args.out.now _ _ c.route.ensures _ _ _ r.number_is r.line_is r.bytes_is

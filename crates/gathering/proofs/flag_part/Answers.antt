@@ -1,26 +1,24 @@
 -- `gathering::flag_part` meets its contract: part i is lent, and comes back with the flags of the tops. Assumes nothing.
-use Prim.Native.Nat.{ℕ, ◌+◌, ◌*◌, ◌-◌}
-use mathlib.Core.Path.{◌∙◌}
+use Prim.Native.Nat.{ℕ, ◌+◌, ◌-◌}
 use mathlib.Core.List.{List}
-use borrow.Rule.Slice.PartMut.{mid_of}
-use Rattle.blockmap.specs.Clear.{all_unset, flag_tops}
+use Rattle.std.specs.Prelude.{Option, None, Some}
+use Rattle.blockmap.specs.declared.BlockMap.{BlockMap}
+use Rattle.blockmap.specs.Clear.{flag_tops}
 use Rattle.candidates.specs.declared.NetTops.{NetTops}
-use Rattle.candidates.proofs.FlagParts.{part_back, all_clear}
+use Rattle.candidates.specs.Gathered.{leave_free}
+use Rattle.candidates.proofs.FlagParts.{part_back}
 use Rattle.gathering.proofs.flag_part.Goals as goal
 
 -- the flags of the tops
-abbrev flagged_tops : List ℕ → NetTops → List ℕ → List ℕ
-flagged_tops words tops = flag_tops (λ top. all_unset words top tops.need) tops.first.0 (tops.last.0 + 1 - tops.first.0)
+abbrev flagged_tops : Option BlockMap → NetTops → List ℕ → List ℕ
+flagged_tops map tops = flag_tops (λ top. leave_free map top tops.need) tops.first.0 (tops.last.0 + 1 - tops.first.0)
 
-pub returns-then-any : goal.returns-then-any
-returns-then-any c =
+pub returns-in-Some : goal.returns-in-Some
+returns-in-Some c =
     let a = c.args in
-    part_back a.i (flagged_tops a.map.words a.tops) a.flags.now c.clear_tops.new.flags c.clear_tops.ensures
+    rw c.in-Some.is (part_back a.i (flagged_tops (Some c.in-Some.map) a.tops) a.flags.now c.clear_tops.new.flags c.clear_tops.ensures)
 
-pub returns-else-any : goal.returns-else-any
-returns-else-any c =
+pub returns-in-None : goal.returns-in-None
+returns-in-None c =
     let a = c.args in
-    let lent = mid_of (a.i * 1024) (a.i * 1024 + 1024 - a.i * 1024) a.flags.now in
-    let none = c.requires.row_value c.if-any.false in
-    part_back a.i (flagged_tops a.map.words a.tops) a.flags.now c.all_tops.new.flags
-    (c.all_tops.ensures ∙ all_clear a.map.words a.tops.need a.tops.first.0 (a.tops.last.0 + 1 - a.tops.first.0) lent none)
+    rw c.in-None.is (part_back a.i (flagged_tops None a.tops) a.flags.now c.all_tops.new.flags c.all_tops.ensures)

@@ -1,82 +1,70 @@
--- `gathering::gather` meets its contract: before each turn of the loop arrays and flags hold the candidates among the nets passed. Assumes nothing.
+-- `gathering::gather` meets its contract. Assumes nothing.
 use Prim.Native.Nat.{◌<◌}
-use mathlib.Core.Path.{sym, ◌∙◌}
+use mathlib.Core.Path.{◌≡◌, sym, ◌∙◌}
 use native.Mathlib.Omega.{arith}
-use lib.ListN.{get_or}
+use lib.ListN.{length}
+use lib.Seq.{get_or-take, length-take-le}
 use borrow.Author.Rules.{rules}
-use Rattle.board.specs.Stored.{no_net, job_of}
-use Rattle.candidates.proofs.NetBefore.{net_accepted}
-use Rattle.candidates.proofs.TrackBlocks.{none_blocked}
-use Rattle.toptable.proofs.LentNets.{not_eligible, is_ready}
-use Rattle.gathering.proofs.Gathering.{tops_range, passed_none, passed_skip, passed_take, passed_count, passed_all}
+use Rattle.std.specs.Prelude.{None}
+use Rattle.board.specs.Stored.{job_of}
+use Rattle.candidates.specs.Gathered.{BlocksOf}
+use Rattle.gathering.proofs.Gathering.{found_range, passed_none, passed_skip, passed_take, passed_count, passed_all}
+use Rattle.gathering.proofs.gather.Goals.{then-has_blocks, else-has_blocks, in-Some, in_default}
 use Rattle.gathering.proofs.gather.Goals as goal
 
-pub loop-next-init : goal.loop-next-init
-loop-next-init c =
-    let a = c.args in
-    let job = a.job.now in
-    let accepted = c.requires.accepted_stored in
-    let words = c.block_map-map.result.words in
-    let found = c.no_candidates-found.result in
-    let none = passed_none job a.placed.now words a.flags.now found (c.no_candidates-found.ensures job.board) in record {
-      in_nets = omega arith;
-      no_more = passed_count job accepted (search rules) a.placed.now words a.flags.now found a.flags.now 0 (omega arith) none;
+pub loop-i-init : goal.loop-i-init
+loop-i-init c =
+    let none = passed_none (job_of c.args.job.now) c.args.stands.now c.if-has_blocks.map c.args.flags.now c.no_candidates-found.result (c.no_candidates-found.ensures c.args.job.now.board) in
+    record {
+      no_more = passed_count _ c.requires.accepted_stored.accepted _ _ _ _ _ 0 (omega arith) none;
       passed = none;
     }
 
--- a net that is not eligible
-pub loop-next-preserved-then-table-i-eq0 : goal.loop-next-preserved-then-table-i-eq0
-loop-next-preserved-then-table-i-eq0 c =
-    let a = c.args in
-    let job = a.job.now in
-    let accepted = c.requires.accepted_stored in
-    let l = c.loop-next in
-    let table = c.tops_table-table in
-    let h : l.next < job.nnets = omega arith in
-    let ready = not_eligible job a.placed.now table.result table.ensures l.next h c.if-table-i-eq0.true in record {
-      in_nets = omega arith;
-      no_more = omega arith;
-      passed = passed_skip job accepted (search rules) a.placed.now c.block_map-map.result.words a.flags.now l.found l.flags l.next h l.invariant.passed ready;
-    }
-
-pub flag_part-requires-clause-row_value : goal.flag_part-requires-clause-row_value
-flag_part-requires-clause-row_value c e row =
-    c.block_map-map.ensures row ∙ none_blocked (job_of c.args.job.now) c.args.track.0 (sym c.has_blocks-any.ensures ∙ e) row
-
 pub flag_part-requires-clause-le_first : goal.flag_part-requires-clause-le_first
 flag_part-requires-clause-le_first c =
-    let a = c.args in
-    let job = a.job.now in
-    let accepted = c.requires.accepted_stored in
-    let i = c.loop-next.next in
-    let table = c.tops_table-table in
-    let h : i < job.nnets = omega arith in
-    let n = net_accepted job accepted (search rules) i h in
-    let ready = is_ready job a.placed.now table.result table.ensures i h c.if-table-i-eq0.false in
-    tops_range job.board (get_or job.nets i no_net) c.tops_in-tops.result accepted.accepted.board_range n
-    (rw c.tops_in-tops.ensures (table.ensures.tops i h ready))
+    let job = job_of c.args.job.now in
+    let size : length c.tops_table-table.result ≡ 512 = search rules in
+    let few = c.requires.accepted_stored.accepted.nets_count in
+    let rows = length-take-le (length job.nets) c.tops_table-table.result (omega arith) in
+    let h : c.loop-i.i < length job.nets = omega arith in
+    found_range job c.requires.accepted_stored.accepted c.args.stands.now c.if-has_blocks.map c.args.flags.now c.loop-i.found c.loop-i.flags c.loop-i.i h
+    c.tops_table-table.result c.tops_table-table.ensures c.in-Some.tops
+    (sym (get_or-take (length job.nets) c.tops_table-table.result c.loop-i.i None h) ∙ c.in-Some.is)
 
--- an eligible net
-pub loop-next-preserved : goal.loop-next-preserved
-loop-next-preserved c =
-    let a = c.args in
-    let job = a.job.now in
-    let r = c.requires in
-    let l = c.loop-next in
+pub loop-i-preserved : goal.loop-i-preserved
+loop-i-preserved c =
+    let job = job_of c.args.job.now in
+    let l = c.loop-i in
     let table = c.tops_table-table in
-    let h : l.next < job.nnets = omega arith in
-    let ready = is_ready job a.placed.now table.result table.ensures l.next h c.if-table-i-eq0.false in record {
-      in_nets = omega arith;
-      no_more = omega arith;
-      passed = passed_take job r.accepted_stored (search rules) a.placed.now c.block_map-map.result.words a.flags.now l.found l.flags l.next h
-          r.in_bounds l.invariant.passed ready c.tops_in-tops.result (rw c.tops_in-tops.ensures (table.ensures.tops l.next h ready)) c.flag_part.new.flags c.flag_part.ensures;
-    }
+    let accepted = c.requires.accepted_stored.accepted in
+    let size : length table.result ≡ 512 = search rules in
+    let few = accepted.nets_count in
+    let rows = length-take-le (length job.nets) table.result (omega arith) in
+    let h : l.i < length job.nets = omega arith in
+    let same = sym (get_or-take (length job.nets) table.result l.i None h) in
+    elim c.match-slot.branch [
+      | in-Some w ↦ rw (w.found-is, w.flags-is) (record {
+        no_more = omega arith;
+        passed = passed_take job accepted c.args.stands.now c.if-has_blocks.map c.args.flags.now l.found l.flags l.i h table.result table.ensures w.in-Some.tops
+            (same ∙ w.in-Some.is) (omega arith) l.invariant.passed w.flag_part.new.flags w.flag_part.ensures;
+      })
+      | in_default w ↦ rw (w.found-is, w.flags-is) (record {
+        no_more = omega arith;
+        passed = passed_skip job accepted c.args.stands.now c.if-has_blocks.map c.args.flags.now l.found l.flags l.i h table.result table.ensures
+            (same ∙ w.in_default.is) l.invariant.passed;
+      })
+    ]
 
 pub returns : goal.returns
 returns c =
-    let a = c.args in
-    let job = a.job.now in
-    let r = c.requires in
-    let l = c.loop-next in
-    passed_all job r.accepted_stored (search rules) a.placed.now c.block_map-map.result.words a.flags.now l.found l.flags l.next a.track.0
-    c.block_map-map.ensures r.in_bounds (omega arith) (omega arith) l.invariant.passed
+    let job = job_of c.args.job.now in
+    let size : length c.tops_table-table.result ≡ 512 = search rules in
+    let few = c.requires.accepted_stored.accepted.nets_count in
+    let rows = length-take-le (length job.nets) c.tops_table-table.result (omega arith) in
+    let fits : BlocksOf job c.args.track.0 c.if-has_blocks.map =
+    elim c.if-has_blocks.branch [
+      | then-has_blocks w ↦ rw w.map-is w.block_map.ensures
+      | else-has_blocks w ↦ rw w.map-is (sym c.has_blocks.ensures ∙ w.if-has_blocks.false)
+    ] in
+    passed_all job c.requires.accepted_stored.accepted c.args.stands.now c.if-has_blocks.map c.args.flags.now c.loop-i.found c.loop-i.flags c.loop-i.i
+    c.args.track.0 fits (omega arith) (omega arith) c.loop-i.invariant.passed

@@ -1,14 +1,11 @@
--- Before each turn of the loop of `gathering::gather` arrays and flags hold the candidates among the nets passed.
-use Prim.Native.Nat.{◌-◌, ◌≤◌}
+-- Before each turn candidates and flags hold the eligible nets among the nets passed.
+use Prim.Native.Nat.{◌≤◌}
+use Rattle.board.specs.Stored.{job_of}
 use Rattle.gathering.proofs.Gathering.{Passed}
 use Rattle.gathering.proofs.gather.Given as goal
 
-abbrev pub invariant-loop-next : goal.invariant-loop-next
-invariant-loop-next l = record {
-  in_nets : l.next ≤ l.job.nnets;
-  no_more : l.found.count ≤ l.next;
-  passed : Passed l.job l.placed l.map.words l.initial.flags l.found l.flags l.next;
+abbrev pub invariant-loop-i : goal.invariant-loop-i
+invariant-loop-i l = record {
+  no_more : l.found.count ≤ l.i;
+  passed : Passed (job_of l.job) l.stands l.map l.initial.flags l.found l.flags l.i;
 }
-
-abbrev pub decreases-loop-next : goal.decreases-loop-next
-decreases-loop-next l = l.job.nnets - l.next

@@ -1,15 +1,34 @@
--- `housewriter::put_blocks` meets its contract: the lines of the sorted keys are those of the sorted blocks. Assumes nothing.
+-- `housewriter::put_blocks` meets its contract: before each turn of the loop the blocks passed, in order, are written. Assumes nothing.
+use Prim.Native.Nat.{◌+◌}
 use native.Mathlib.Omega.{arith}
-use Rattle.housewriter.proofs.Parts.{sorted_lines}
+use lib.ListN.{get_or, take, drop}
+use Rattle.text.proofs.Writing.{at_rest, rest_room}
+use Rattle.text.proofs.Runs.{going_on, going_room, going_more, going_end}
+use Rattle.board.specs.Stored.{no_block}
+use Rattle.house.specs.HouseText.{block_line}
+use Rattle.joblines.specs.Lines.{ended}
+use Rattle.housewriter.specs.Parts.{blocks_text}
+use Rattle.housewriter.proofs.Parts.{lines_step, lines_last}
 use Rattle.housewriter.proofs.put_blocks.Goals as goal
 
-pub put_keys-requires : goal.put_keys-requires
-put_keys-requires c =
-    let stored = c.requires.accepted_stored in
-    record {
-      count_in_bounds = omega (arith, stored.blocks_room);
-      keys_in_bounds = rw (sorted_lines c.args.job.now stored c.sort_keys.ensures) c.requires.job_in_bounds;
-    }
+pub block_line-next-requires : goal.block_line-next-requires
+block_line-next-requires c =
+    let blocks = take c.args.job.now.nblocks c.sorted_blocks-blocks.result in
+    let i = c.loop-block.block-index in
+    let e = lines_step block_line blocks i no_block (omega arith) in
+    let h = rw (← c.sorted_blocks-blocks.ensures) at c.requires.job_in_bounds in
+    rest_room _ _ (going_room (ended (block_line (get_or blocks i no_block))) (blocks_text (drop (i + 1) blocks)) (going_on e c.loop-block.invariant) h)
+
+pub loop-block-preserved : goal.loop-block-preserved
+loop-block-preserved c =
+    let blocks = take c.args.job.now.nblocks c.sorted_blocks-blocks.result in
+    let i = c.loop-block.block-index in
+    let e = lines_step block_line blocks i no_block (omega arith) in
+    let h = rw (← c.sorted_blocks-blocks.ensures) at c.requires.job_in_bounds in
+    let w = at_rest _ _ _ _ _ c.block_line-next.ensures in
+    going_more (ended (block_line (get_or blocks i no_block))) (blocks_text (drop (i + 1) blocks)) (going_on e c.loop-block.invariant) h w
 
 pub returns : goal.returns
-returns c = rw (sorted_lines c.args.job.now c.requires.accepted_stored c.sort_keys.ensures) at c.put_keys.ensures
+returns c =
+    let blocks = take c.args.job.now.nblocks c.sorted_blocks-blocks.result in
+    rw (← c.sorted_blocks-blocks.ensures) (going_end (going_on (lines_last block_line blocks c.loop-block.block-index (omega arith)) c.loop-block.invariant))

@@ -4,6 +4,7 @@ use mathlib.Core.List.{List, [], ◌∷◌, ◌++◌}
 use native.Mathlib.Omega.{arith}
 use lib.ListN.{length}
 use Rattle.text.specs.Runs.{Going}
+use Rattle.text.proofs.Writing.{at_rest, rest_room}
 use Rattle.text.proofs.Runs.{going_start, going_on, going_room, going_more, last_room, going_last}
 use Rattle.board.specs.declared.Board.{Board}
 use Rattle.keywords.specs.Keywords.{word_of}
@@ -36,21 +37,21 @@ put_opening-a-requires c =
     let s = c.args.out.now in
     going_room opening (rows b ++ tracks b) (start b s) (room b s c.requires)
 
-pub put_size-b-requires : goal.put_size-b-requires
-put_size-b-requires c =
+pub size_line-requires-clause-number_in_bounds : goal.size_line-requires-clause-number_in_bounds
+size_line-requires-clause-number_in_bounds c =
     let b = c.args.board in
     let s = c.args.out.now in
     let h = room b s c.requires in
     let g = going_more opening (rows b ++ tracks b) (start b s) h c.put_opening-a.ensures in
-    record { i_bound = omega arith; number_in_bounds = going_room (rows b) (tracks b) g h }
+    rest_room _ _ (going_room (rows b) (tracks b) g h)
 
-pub put_size-requires : goal.put_size-requires
-put_size-requires c =
+pub size_line-requires-2-clause-number_in_bounds : goal.size_line-requires-2-clause-number_in_bounds
+size_line-requires-2-clause-number_in_bounds c =
     let b = c.args.board in
     let s = c.args.out.now in
     let h = room b s c.requires in
     let g = going_more opening (rows b ++ tracks b) (start b s) h c.put_opening-a.ensures in
-    record { i_bound = omega arith; number_in_bounds = last_room (tracks b) (going_more (rows b) (tracks b) g h c.put_size-b.ensures) h }
+    rest_room _ _ (last_room (tracks b) (going_more (rows b) (tracks b) g h (at_rest _ _ _ _ _ c.size_line.ensures)) h)
 
 pub returns : goal.returns
 returns c =
@@ -58,4 +59,4 @@ returns c =
     let s = c.args.out.now in
     let h = room b s c.requires in
     let g = going_more opening (rows b ++ tracks b) (start b s) h c.put_opening-a.ensures in
-    going_last (tracks b) (going_more (rows b) (tracks b) g h c.put_size-b.ensures) h c.put_size.ensures
+    going_last (tracks b) (going_more (rows b) (tracks b) g h (at_rest _ _ _ _ _ c.size_line.ensures)) h (at_rest _ _ _ _ _ c.size_line-2.ensures)

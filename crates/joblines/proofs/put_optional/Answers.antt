@@ -7,11 +7,11 @@ use Rattle.joblines.proofs.put_optional.Goals as goal
 
 pub put_spaced-requires : goal.put_spaced-requires
 put_spaced-requires c =
-    let e = ap length (some_text _ _ c.in-Written.is) in
+    let e = ap length (some_text _ _ c.in-Some.is) in
     omega (arith, e, c.requires)
 
-pub returns-in-LeftOut : goal.returns-in-LeftOut
-returns-in-LeftOut c = none_put _ _ _ c.in-LeftOut.is
+pub returns-in-None : goal.returns-in-None
+returns-in-None c = none_put _ _ _ c.in-None.is
 
-pub returns-in-Written : goal.returns-in-Written
-returns-in-Written c = some_put _ _ c.in-Written.is c.put_spaced.ensures
+pub returns-in-Some : goal.returns-in-Some
+returns-in-Some c = some_put _ _ c.in-Some.is c.put_spaced.ensures

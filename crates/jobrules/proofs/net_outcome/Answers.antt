@@ -1,4 +1,5 @@
 -- `jobrules::net_outcome` meets its contract: refusals 3 to 9, the first that fits. Assumes nothing.
+use Rattle.std.specs.Prelude.{ℕ, Option}
 use mathlib.Core.Path.{◌≡◌, sym, ap, ◌∙◌}
 use mathlib.Core.Bool.{true}
 use native.Mathlib.Omega.{arith}
@@ -7,14 +8,13 @@ use Rattle.board.specs.declared.Net.{Net}
 use Rattle.board.specs.Length.{extra, length_of}
 use Rattle.board.specs.Accepted.{NetInRange}
 use Rattle.board.proofs.ShortestShape.{stretch_range}
-use Rattle.jobfile.specs.declared.Optional.{Optional}
 use Rattle.jobfile.specs.Read.{net_in_range}
 use Rattle.jobfile.proofs.Tests.{net_range_is, differ_is}
 use Rattle.jobrules.proofs.Pins.{rows_in_range}
 use Rattle.jobrules.proofs.Outcomes.{test_yes, test_no, fails_3, fails_4, fails_5, fails_6, fails_7, fails_8, fails_9, passes_9}
 use Rattle.jobrules.proofs.net_outcome.Goals as goal
 
-in_range : (size : Board) (n : Net) (w : Optional) → net_in_range size n w ≡ true → NetInRange size n
+in_range : (size : Board) (n : Net) (w : Option ℕ) → net_in_range size n w ≡ true → NetInRange size n
 in_range size n w e = ((net_range_is size n w).0 e).0
 
 pub returns-then-not-is_net_in_range : goal.returns-then-not-is_net_in_range

@@ -3,13 +3,13 @@ use mathlib.Core.Path.{sym, ap, ◌∙◌}
 use Rattle.jobfile.specs.Read.{weight_given, with_weight}
 use Rattle.jobrules.proofs.with_weight.Goals as goal
 
-pub returns-in-LeftOut : goal.returns-in-LeftOut
+pub returns-in-None : goal.returns-in-None
 unfolding weight_given
-returns-in-LeftOut c =
+returns-in-None c =
     let a = c.args in
     (λ i. record { number = a.net.number; left = a.net.left; right = a.net.right; min = a.net.min; max = a.net.max; weight = c.needed.ensures i })
-    ∙ sym (ap (with_weight a.size a.net) c.in-LeftOut.is)
+    ∙ sym (ap (with_weight a.size a.net) c.in-None.is)
 
-pub returns-in-Written : goal.returns-in-Written
+pub returns-in-Some : goal.returns-in-Some
 unfolding weight_given
-returns-in-Written c = let a = c.args in sym (ap (with_weight a.size a.net) c.in-Written.is)
+returns-in-Some c = let a = c.args in sym (ap (with_weight a.size a.net) c.in-Some.is)

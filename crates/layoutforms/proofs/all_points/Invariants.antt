@@ -1,12 +1,10 @@
--- Before each turn of the loop of `layoutforms::all_points` the points from place p on decide.
-use mathlib.Core.Path.{◌≡◌}
-use Prim.Native.Nat.{◌≤◌, ◌-◌}
-use lib.ListN.{length, drop}
+-- Before each turn of the loop of `layoutforms::all_points` the points that are left decide.
+use Rattle.std.proofs.Common.{◌≡◌, length}
 use Rattle.layoutforms.specs.Exact.{is_points}
 use Rattle.layoutforms.proofs.all_points.Given as goal
 
-abbrev pub invariant-loop-p : goal.invariant-loop-p
-invariant-loop-p l = (l.p ≤ length l.s) × (is_points (drop l.at l.s) ≡ is_points (drop l.p l.s))
+abbrev pub invariant-loop-rest : goal.invariant-loop-rest
+invariant-loop-rest l = is_points l.initial.s ≡ is_points l.s
 
-abbrev pub decreases-loop-p : goal.decreases-loop-p
-decreases-loop-p l = length l.s - l.p
+abbrev pub decreases-loop-rest : goal.decreases-loop-rest
+decreases-loop-rest l = length l.s

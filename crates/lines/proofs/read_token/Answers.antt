@@ -1,29 +1,32 @@
 -- `lines::read_token` meets its contract: the four answers. Assumes nothing.
 use mathlib.Core.Path.{◌∙◌}
 use native.Mathlib.Omega.{arith}
+use borrow.Author.Rules.{rules}
+use Rattle.text.specs.Bytes.{not_space}
+use Rattle.lines.proofs.Scans.{scanned}
 use Rattle.lines.proofs.Tokens.{on_nothing, on_open, on_shut, on_word, at_on}
 use Rattle.lines.proofs.read_token.Goals as goal
 
-pub returns-then-s-i : goal.returns-then-s-i
-returns-then-s-i c =
+pub returns-in_err-first : goal.returns-in_err-first
+returns-in_err-first c =
     let i = c.scan_to-i.result in
     let s = c.args.s.now in
-    on_nothing s i (omega arith) ∙ at_on s c.args.at i c.scan_to-i.ensures.0
+    rw c.from_residual.ensures (on_nothing s i (grind arith) ∙ at_on s c.args.at i (scanned not_space s c.args.at i (search rules) c.scan_to-i.ensures))
 
-pub returns-then-s-i-eq40 : goal.returns-then-s-i-eq40
-returns-then-s-i-eq40 c =
+pub returns-in-40 : goal.returns-in-40
+returns-in-40 c =
     let i = c.scan_to-i.result in
     let s = c.args.s.now in
-    on_open s i (omega arith) c.if-s-i-eq40.true ∙ at_on s c.args.at i c.scan_to-i.ensures.0
+    on_open s i (grind arith) (grind arith) ∙ at_on s c.args.at i (scanned not_space s c.args.at i (search rules) c.scan_to-i.ensures)
 
-pub returns-then-s-i-eq41 : goal.returns-then-s-i-eq41
-returns-then-s-i-eq41 c =
+pub returns-in-41 : goal.returns-in-41
+returns-in-41 c =
     let i = c.scan_to-i.result in
     let s = c.args.s.now in
-    on_shut s i (omega arith) c.if-s-i-eq41.true ∙ at_on s c.args.at i c.scan_to-i.ensures.0
+    on_shut s i (grind arith) (grind arith) ∙ at_on s c.args.at i (scanned not_space s c.args.at i (search rules) c.scan_to-i.ensures)
 
-pub returns : goal.returns
-returns c =
+pub returns-in_default : goal.returns-in_default
+returns-in_default c =
     let i = c.scan_to-i.result in
     let s = c.args.s.now in
-    on_word s i c.scan_to-to.result (omega arith) c.if-s-i-eq40.false c.if-s-i-eq41.false c.scan_to-to.ensures.0 ∙ at_on s c.args.at i c.scan_to-i.ensures.0
+    on_word s i c.word_end.result (grind arith) (grind arith) (grind arith) c.word_end.ensures.0 ∙ at_on s c.args.at i (scanned not_space s c.args.at i (search rules) c.scan_to-i.ensures)

@@ -1,17 +1,27 @@
--- `lines::scan_to` meets its contract. The invariant: a scan from place i on finds the same. Assumes nothing.
-use mathlib.Core.Path.{sym, ◌∙◌}
+-- `lines::scan_to` meets its contract. The invariant: the test answered false of each byte passed. Assumes nothing.
+use mathlib.Core.Bool.{true, false}
 use native.Mathlib.Omega.{arith}
-use Rattle.lines.specs.Places.{stops_at}
-use Rattle.lines.proofs.Scans.{scan_here, scan_later, scan_end}
+use lib.ListN.{length-drop}
+use Rattle.lines.proofs.Scans.{rest_lent, rest_before}
 use Rattle.lines.proofs.scan_to.Goals as goal
 
 pub returns-then-stops : goal.returns-then-stops
-returns-then-stops c =
-    (sym (c.loop-i.invariant.2 ∙ scan_here (stops_at c.args.stop) c.args.s.now c.loop-i.i (omega arith) (sym c.stops.ensures ∙ c.if-stops.true)), omega arith, omega arith)
-
-pub loop-i-preserved : goal.loop-i-preserved
-loop-i-preserved c =
-    (omega arith, omega arith, c.loop-i.invariant.2 ∙ scan_later (stops_at c.args.stop) c.args.s.now c.loop-i.i (omega arith) (sym c.stops.ensures ∙ c.if-stops.false))
+returns-then-stops g c =
+    let a = c.args in
+    record {
+      ahead = omega arith;
+      within = omega (arith, length-drop a.from a.s.now);
+      passed = rest_before (λ b. goal.F-post g a.stops b false) a.s.now a.from c.loop-i.i c.loop-i.invariant;
+      stopped = λ h. rest_lent (λ b. goal.F-post g a.stops b true) a.s.now a.from c.loop-i.i c.if-stops.ensures;
+    }
 
 pub returns : goal.returns
-returns c = (sym (c.loop-i.invariant.2 ∙ scan_end (stops_at c.args.stop) c.args.s.now c.loop-i.i (omega arith)), omega arith, omega arith)
+returns g c =
+    let a = c.args in
+    record {
+      ahead = omega arith;
+      within = omega arith;
+      passed =
+          λ k l m. rest_before (λ b. goal.F-post g a.stops b false) a.s.now a.from c.loop-i.i c.loop-i.invariant k l (omega (arith, length-drop a.from a.s.now));
+      stopped = λ h. absurd (omega arith);
+    }

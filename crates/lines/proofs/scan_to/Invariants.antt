@@ -1,12 +1,8 @@
--- Before each turn of the loop of `lines::scan_to` a scan from place i on finds the same as one from the start.
-use mathlib.Core.Path.{◌≡◌}
-use Prim.Native.Nat.{◌-◌, ◌≤◌}
-use lib.ListN.{length}
-use Rattle.lines.specs.Places.{stops_at, scan}
+-- Before each turn of the loop of `lines::scan_to` the test answered false of each byte passed.
+use mathlib.Core.Bool.{false}
+use Prim.Native.Nat.{ℕ, ◌<◌}
+use lib.ListN.{get_or, drop}
 use Rattle.lines.proofs.scan_to.Given as goal
 
 abbrev pub invariant-loop-i : goal.invariant-loop-i
-invariant-loop-i l = (l.from ≤ l.i) × (l.i ≤ length l.s) × (scan (stops_at l.stop) l.s l.from ≡ scan (stops_at l.stop) l.s l.i)
-
-abbrev pub decreases-loop-i : goal.decreases-loop-i
-decreases-loop-i l = length l.s - l.i
+invariant-loop-i g l = (k : ℕ) → k < l.i → goal.F-post g l.stops (get_or (drop l.from l.s) k 0) false

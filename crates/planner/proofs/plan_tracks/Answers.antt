@@ -14,14 +14,13 @@ use Rattle.planner.proofs.plan_tracks.Goals.{After-gather-c}
 use Rattle.planner.proofs.plan_tracks.Goals as goal
 
 pub loop-t-init : goal.loop-t-init
-loop-t-init c = (omega arith, omega arith, c.no_progress-p.ensures ∙ none_planned (job_of c.args.job.now) c.requires.accepted_stored.accepted, c.requires.flags_room)
+loop-t-init c = none_planned (job_of c.args.job.now) c.requires.accepted_stored.accepted
 
--- the track on turn, and its candidates with the nets of the tracks before it held
-on_turn : (c : After-gather-c) → OnTurn (job_of c.args.job.now) c.loop-t.t c.loop-t.p
-on_turn c = record { track_range = (omega arith, omega arith); so_far = c.loop-t.invariant.2 }
-
+-- the candidates of the track on turn, with the nets of the tracks before it held
 held : (c : After-gather-c) → Gathered (job_of c.args.job.now) (on_first (job_of c.args.job.now) (c.loop-t.t - 1)) c.loop-t.t c.gather-c.result c.gather-c.new.flags
-held c = gathered_first (job_of c.args.job.now) c.loop-t.t c.loop-t.p _ _ c.gather-c.result (on_turn c) c.gather-c.ensures
+held c =
+    let on_turn : OnTurn (job_of c.args.job.now) c.loop-t.t c.loop-t.p = record { track_range = (omega arith, omega arith); so_far = c.loop-t.invariant } in
+    gathered_first (job_of c.args.job.now) c.loop-t.t c.loop-t.p _ _ c.gather-c.result on_turn c.gather-c.ensures
 
 pub fill-plan-requires : goal.fill-plan-requires
 fill-plan-requires c =
@@ -33,13 +32,11 @@ record_track-requires-clause-plan_value c =
     let g = (goal.at.record_track-requires-clause-plan_value c).After-gather-c in
     c.fill-plan.ensures ∙ filled_plan_lem (job_of c.args.job.now) _ c.loop-t.t c.gather-c.result _ c.requires.accepted_stored.accepted (held g)
 
-pub returns-clause-answer : goal.returns-clause-answer
-returns-clause-answer c =
-    let e : c.loop-t.t - 1 ≡ c.args.job.now.board.tracks = omega arith in
-    all_planned (job_of c.args.job.now) c.loop-t.p (c.loop-t.invariant.2 ∙ ap (progress_to (job_of c.args.job.now)) e)
+-- after the last track
+pub returns-2-clause-answer : goal.returns-2-clause-answer
+returns-2-clause-answer c =
+    let e : c.loop-t.t ≡ c.args.job.now.board.tracks = omega arith in
+    c.record_track.ensures ∙ ap (progress_to (job_of c.args.job.now)) e ∙ all_planned (job_of c.args.job.now)
 
-pub returns-clause-best : goal.returns-clause-best
-returns-clause-best c =
-    let e : c.loop-t.t - 1 ≡ c.args.job.now.board.tracks = omega arith in
-    let is = all_planned (job_of c.args.job.now) c.loop-t.p (c.loop-t.invariant.2 ∙ ap (progress_to (job_of c.args.job.now)) e) in
-    rw is (best_plan (job_of c.args.job.now) c.requires.accepted_stored.accepted)
+pub returns-2-clause-best : goal.returns-2-clause-best
+returns-2-clause-best c = rw (returns-2-clause-answer c) (best_plan (job_of c.args.job.now) c.requires.accepted_stored.accepted)

@@ -62,12 +62,6 @@ offset_bounds-p-c c = let i = in_nets (goal.at.offset_bounds-p-c c).Else-c-eq512
 pub bounds-p-c : goal.bounds-p-c
 bounds-p-c c = in_nets (goal.at.bounds-p-c c).Else-c-eq512
 
-pub offset_bounds-p-c-else-c-eq512 : goal.offset_bounds-p-c-else-c-eq512
-offset_bounds-p-c-else-c-eq512 c = let i = in_nets (goal.at.offset_bounds-p-c-else-c-eq512 c).Else-c-eq512 in omega arith
-
-pub bounds-p-c-else-c-eq512 : goal.bounds-p-c-else-c-eq512
-bounds-p-c-else-c-eq512 c = in_nets (goal.at.bounds-p-c-else-c-eq512 c).Else-c-eq512
-
 pub overflow_add-j-else-c-eq512 : goal.overflow_add-j-else-c-eq512
 overflow_add-j-else-c-eq512 c =
     let k = here (goal.at.overflow_add-j-else-c-eq512 c).Else-c-eq512 in

@@ -1,25 +1,25 @@
 -- `texts::text_end` meets its contract. Assumes nothing.
-use mathlib.Core.Path.{sym, ◌∙◌}
-use borrow.Author.Tests.{eq-eqb, ne_eqb}
+use mathlib.Core.Path.{◌≡◌}
+use mathlib.Core.Bool.{Bool}
+use mathlib.Core.List.{List}
+use Prim.Native.Nat.{ℕ, ◌≤◌}
 use native.Mathlib.Omega.{arith}
-use Rattle.lines.proofs.Scans.{scan_here, scan_later, scan_end}
+use borrow.Author.Rules.{rules}
+use lib.ListN.{length, drop_of_length-le}
+use Rattle.lines.specs.Places.{until, scan}
+use Rattle.lines.proofs.Scans.{scanned}
 use Rattle.texts.specs.Ends.{ends_text}
 use Rattle.texts.proofs.text_end.Goals as goal
 
-pub returns-then-s-i : goal.returns-then-s-i
-returns-then-s-i c =
-    let s = c.args.s.now in
-    let l = c.loop-i in
-    (sym (l.invariant.2 ∙ scan_here ends_text s l.i (omega arith) (eq-eqb _ _ c.if-s-i.true)), omega arith, omega arith)
+-- behind the end of the input nothing is left to scan
+scan_behind : (f : ℕ → Bool) (s : List ℕ) (from : ℕ) → length s ≤ from → from ≡ scan f s from
+unfolding scan until
+scan_behind f s from h = rw (drop_of_length-le s h) (omega arith)
 
-pub loop-i-preserved : goal.loop-i-preserved
-loop-i-preserved c =
-    let s = c.args.s.now in
-    let l = c.loop-i in
-    (omega arith, omega arith, l.invariant.2 ∙ scan_later ends_text s l.i (omega arith) (ne_eqb _ _ c.if-s-i.false))
+pub returns-then-s-from : goal.returns-then-s-from
+returns-then-s-from c = (scan_behind ends_text c.args.s.now c.args.from (omega arith), omega arith, omega arith)
 
 pub returns : goal.returns
 returns c =
-    let s = c.args.s.now in
-    let l = c.loop-i in
-    (sym (l.invariant.2 ∙ scan_end ends_text s l.i (omega arith)), omega arith, omega arith)
+    let w = c.scan_to.ensures in
+    (scanned ends_text c.args.s.now c.args.from c.scan_to.result (search rules) w, w.ahead, omega (arith, w.within))

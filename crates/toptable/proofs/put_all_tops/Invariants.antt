@@ -1,15 +1,11 @@
--- Before each turn of the loop of `toptable::put_all_tops` the table has what the choice needs of the nets passed.
-use Prim.Native.Nat.{◌≤◌, ◌-◌}
+-- Before each turn the table has what the choice needs of the nets passed.
 use mathlib.Core.Path.{◌≡◌}
 use lib.ListN.{length}
-use Rattle.toptable.specs.TopsTable.{with_all_tops}
+use Rattle.toptable.specs.TopsTable.{FirstTops}
 use Rattle.toptable.proofs.put_all_tops.Given as goal
 
 abbrev pub invariant-loop-i : goal.invariant-loop-i
 invariant-loop-i l = record {
-  in_nets : l.i ≤ length l.nets;
-  written : l.table ≡ with_all_tops l.board l.nets l.i l.initial.table;
+  same_length : length l.table ≡ 512;
+  passed : FirstTops l.board l.nets l.before l.stands l.i l.table;
 }
-
-abbrev pub decreases-loop-i : goal.decreases-loop-i
-decreases-loop-i l = length l.nets - l.i

@@ -1,24 +1,36 @@
 -- `verdicts::put_verdict` meets its contract. Assumes nothing.
-use mathlib.Core.Path.{ap}
+use mathlib.Core.Path.{sym, ◌∙◌}
 use native.Mathlib.Omega.{arith}
-use lib.ListN.{length}
-use Rattle.verdicts.proofs.Lines.{refusal_line, broken_line, sound_line_lem, written_as}
+use Rattle.text.proofs.Numbers.{length_digits}
+use Rattle.reader.proofs.Reports.{refused_length}
+use Rattle.verdicts.specs.Verdicts.{verdict_line}
+use Rattle.verdicts.proofs.Lines.{broken_length, broken_is, refused_is, written_as}
 use Rattle.verdicts.proofs.put_verdict.Goals as goal
 
-pub put_refusal-requires : goal.put_refusal-requires
-put_refusal-requires c = omega (arith, ap length (refusal_line _ c.args.broken c.args.line c.if-number-ne0.true))
+pub put_bytes-requires : goal.put_bytes-requires
+put_bytes-requires c = omega arith
 
-pub returns-then-number-ne0 : goal.returns-then-number-ne0
-returns-then-number-ne0 c = written_as (refusal_line _ _ _ c.if-number-ne0.true) c.put_refusal.ensures
+pub returns-in-Ok : goal.returns-in-Ok
+unfolding verdict_line
+returns-in-Ok c = rw c.in-Ok.is c.put_bytes.ensures
 
 pub put_broken-requires : goal.put_broken-requires
-put_broken-requires c = omega (arith, ap length (broken_line _ _ c.args.line c.if-number-ne0.false c.if-broken.true))
+put_broken-requires c = let l = c.line.result in omega (arith, broken_length l, length_digits 19 l (omega (arith, c.line.type_inv)))
 
-pub returns-then-broken : goal.returns-then-broken
-returns-then-broken c = written_as (broken_line _ _ _ c.if-number-ne0.false c.if-broken.true) c.put_broken.ensures
+pub returns-then-is_broken : goal.returns-then-is_broken
+returns-then-is_broken c = rw c.in-Err.is (written_as (broken_is _ (sym c.is_broken.ensures ∙ c.if-is_broken.true) c.line.ensures) c.put_broken.ensures)
 
-pub put_bytes-requires : goal.put_bytes-requires
-put_bytes-requires c = omega (arith, ap length (sound_line_lem _ _ c.args.line c.if-number-ne0.false c.if-broken.false))
+pub put_refusal-requires : goal.put_refusal-requires
+put_refusal-requires c =
+    let n = c.number.result in
+    let l = c.line-in-Err.result in
+    omega (
+      arith,
+      refused_length n l,
+      length_digits 19 n (omega (arith, c.number.type_inv)),
+      length_digits 19 l (omega (arith, c.line-in-Err.type_inv)),
+    )
 
-pub returns : goal.returns
-returns c = written_as (sound_line_lem _ _ _ c.if-number-ne0.false c.if-broken.false) c.put_bytes.ensures
+pub returns-else-is_broken : goal.returns-else-is_broken
+returns-else-is_broken c =
+    rw c.in-Err.is (written_as (refused_is _ (sym c.is_broken.ensures ∙ c.if-is_broken.false) c.number.ensures c.line-in-Err.ensures) c.put_refusal.ensures)

@@ -1,28 +1,18 @@
--- `judging::wires::rows_clear` meets its contract: before each turn of the loop the rows passed are clear. Assumes nothing.
-use Prim.Native.Nat.{◌+◌}
-use mathlib.Core.Path.{◌≡◌, sym, ◌∙◌}
+-- `judging::wires::rows_clear` meets its contract. Assumes nothing.
+use Prim.Native.Nat.{ℕ, ◌+◌}
+use mathlib.Core.Path.{◌≡◌, refl}
+use mathlib.Core.Bool.{true, false}
+use borrow.Author.Rules.{rules}
+use borrow.Author.Tests.{tests}
 use native.Mathlib.Omega.{arith}
-use Rattle.blockmap.proofs.ClearRows.{clear_none, clear_more, clear_of, blocked_in}
+use Rattle.std.proofs.lemmas.Iterator.{cases_from_all, YieldsList-from_range}
+use Rattle.blockmap.specs.Bits.{is_set}
+use Rattle.judging.proofs.Rows.{clear_answer}
 use Rattle.judging.proofs.wires.rows_clear.Goals as goal
-
-pub loop-row-init : goal.loop-row-init
-loop-row-init c = record { not_past = omega arith; clear = clear_none _ _ }
-
-pub returns-then-is_blocked : goal.returns-then-is_blocked
-returns-then-is_blocked c =
-    let a = c.args in
-    let l = c.loop-row in
-    sym (blocked_in a.words.now a.top.0 a.rows l.row (omega arith) (omega arith) (sym c.is_blocked.ensures ∙ c.if-is_blocked.true))
-
-pub loop-row-preserved : goal.loop-row-preserved
-loop-row-preserved c =
-    let a = c.args in
-    let l = c.loop-row in
-    record { not_past = omega arith; clear = clear_more a.words.now a.top.0 l.row l.invariant.clear (sym c.is_blocked.ensures ∙ c.if-is_blocked.false) }
 
 pub returns : goal.returns
 returns c =
     let a = c.args in
-    let l = c.loop-row in
-    let e : l.row ≡ a.top.0 + a.rows = omega arith in
-    sym (clear_of a.words.now a.top.0 a.rows (rw e at l.invariant.clear))
+    clear_answer a.words.now a.top.0 a.rows c.all.result
+    (cases_from_all _ _ _ (λ (row : ℕ). is_set a.words.now row ≡ false) (λ (row : ℕ). is_set a.words.now row ≡ true) c.all.ensures.ran
+    (YieldsList-from_range a.top.0 (a.top.0 + a.rows) a.rows refl (omega arith)) (λ x q k. search (rules, tests)) (λ x q k. search (rules, tests)))

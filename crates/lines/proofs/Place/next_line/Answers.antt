@@ -1,13 +1,16 @@
--- `lines::Place::next_line` meets its contract. Assumes nothing.
+-- `lines::Place::next_line` meets its contract: the end of the text, or a line. Assumes nothing.
 use native.Mathlib.Omega.{arith}
+use borrow.Author.Rules.{rules}
+use Rattle.text.specs.Bytes.{is_end}
+use Rattle.lines.proofs.Scans.{scanned}
 use Rattle.lines.proofs.StepAnswers.{step_end, step_line}
 use Rattle.lines.proofs.Place.next_line.Goals as goal
-use Rattle.lines.proofs.Place.next_line.Goals.{then-to-s, else-to-s}
 
-pub returns-then-s-from : goal.returns-then-s-from
-returns-then-s-from c = step_end _ _ c.if-s-from.true
+pub returns-then-s-self : goal.returns-then-s-self
+returns-then-s-self c = step_end c.args.s.now c.args.self (omega arith)
 
 pub returns : goal.returns
 returns c =
-    step_line c.args.s.now c.args.self c.scan_to-to.result c.if-to-s.at (omega arith) c.scan_to-to.ensures.0
-    (elim c.if-to-s.branch [ then-to-s w ↦ omega arith | else-to-s w ↦ omega arith ])
+    let s = c.args.s.now in
+    let p = c.args.self in
+    step_line s p c.scan_to-to.result c.min-at.result (omega arith) (scanned is_end s p.at c.scan_to-to.result (search rules) c.scan_to-to.ensures) (omega arith)

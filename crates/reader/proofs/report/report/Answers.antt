@@ -3,12 +3,11 @@ use native.Mathlib.Omega.{arith}
 use Rattle.reader.proofs.Reports.{report_accepted, report_room, report_refused}
 use Rattle.reader.proofs.report.report.Goals as goal
 
-pub returns-then-number-eq0 : goal.returns-then-number-eq0
-returns-then-number-eq0 c = report_accepted _ _ _ c.read-answer.ensures.answer c.number_of-number.ensures c.if-number-eq0.true c.put_bytes.ensures
+pub returns-in-Ok : goal.returns-in-Ok
+returns-in-Ok c = report_accepted _ _ c.in-Ok.ensures.answer c.put_bytes.ensures
 
 pub put_refusal-requires : goal.put_refusal-requires
-put_refusal-requires c = let r = report_room _ _ _ c.read-answer.ensures.answer c.number_of-number.ensures _ c.line_of.ensures in omega arith
+put_refusal-requires c = rw (c.number.ensures, c.line.ensures) (let r = report_room _ _ c.in-Err.ensures.answer in omega arith)
 
-pub returns : goal.returns
-returns c =
-    report_refused _ _ _ c.read-answer.ensures.answer c.number_of-number.ensures _ c.line_of.ensures c.if-number-eq0.false c.put_refusal.ensures
+pub returns-in-Err : goal.returns-in-Err
+returns-in-Err c = report_refused _ _ c.in-Err.ensures.answer (rw (← c.number.ensures, ← c.line.ensures) c.put_refusal.ensures)

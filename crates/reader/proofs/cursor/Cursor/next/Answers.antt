@@ -5,25 +5,19 @@ use Rattle.lines.proofs.Steps.{stepped}
 use Rattle.reader.specs.Cursors.{form_on, form_step}
 use Rattle.reader.proofs.cursor.Cursor.next.Goals as goal
 
+pub returns-in_err-line : goal.returns-in_err-line
+unfolding form_step form_on
+returns-in_err-line c = rw c.from_residual.ensures (ap (form_on _) c.in_err-line.ensures)
+
 pub slice_bounds-read_form-count : goal.slice_bounds-read_form-count
-slice_bounds-read_form-count c =
-    let t = stepped _ _ _ _ _ (sym c.in-Line.is ∙ c.next_line.ensures) in
-    omega arith
+slice_bounds-read_form-count c = let t = stepped _ _ _ c.in_ok-line.ensures in omega arith
 
 pub slice_bounds-read_form-start : goal.slice_bounds-read_form-start
-slice_bounds-read_form-start c =
-    let t = stepped _ _ _ _ _ (sym c.in-Line.is ∙ c.next_line.ensures) in
-    omega arith
+slice_bounds-read_form-start c = let t = stepped _ _ _ c.in_ok-line.ensures in omega arith
 
 pub slice_bounds-read_form-end : goal.slice_bounds-read_form-end
-slice_bounds-read_form-end c =
-    let t = stepped _ _ _ _ _ (sym c.in-Line.is ∙ c.next_line.ensures) in
-    omega arith
+slice_bounds-read_form-end c = let t = stepped _ _ _ c.in_ok-line.ensures in omega arith
 
-pub returns-in-Line : goal.returns-in-Line
+pub returns : goal.returns
 unfolding form_step form_on
-returns-in-Line c = rw c.read_form-form.ensures (ap (form_on _) (sym c.in-Line.is ∙ c.next_line.ensures))
-
-pub returns-in-End : goal.returns-in-End
-unfolding form_step form_on
-returns-in-End c = ap (form_on _) (sym c.in-End.is ∙ c.next_line.ensures)
+returns c = rw c.read_form-form.ensures (ap (form_on _) c.in_ok-line.ensures)

@@ -1,2 +1,0 @@
--- Blocks as numbers.
-pub mod Keys

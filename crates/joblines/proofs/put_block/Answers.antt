@@ -1,6 +1,0 @@
--- `joblines::put_block` meets its contract: what the rest of the buffer took stands at the place. Assumes nothing.
-use Rattle.text.proofs.Writing.{at_rest}
-use Rattle.joblines.proofs.put_block.Goals as goal
-
-pub returns : goal.returns
-returns c = at_rest _ _ _ _ _ c.block_line.ensures

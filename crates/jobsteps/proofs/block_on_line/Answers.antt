@@ -1,6 +1,0 @@
--- `jobsteps::block_on_line` meets its contract. Assumes nothing.
-use mathlib.Core.Path.{refl}
-use Rattle.jobsteps.proofs.block_on_line.Goals as goal
-
-pub returns : goal.returns
-returns c = refl

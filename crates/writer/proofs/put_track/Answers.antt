@@ -1,6 +1,0 @@
--- `writer::put_track` meets its contract: what the rest of the buffer took stands at the place. Assumes nothing.
-use Rattle.text.proofs.Writing.{at_rest}
-use Rattle.writer.proofs.put_track.Goals as goal
-
-pub returns : goal.returns
-returns c = at_rest _ _ _ _ _ c.track_line.ensures

@@ -117,6 +117,12 @@ def going_on(cited, last, part):
     return '' if declaration(path, found[1]) else f'not declared in {path.relative_to(crates)}'
 
 
+def handed_on(path, name):
+    """The file of the code that declares a name, where another hands it on: `pub use module::Name;`."""
+    found = re.search(rf'^pub use (\w+)::(?:{name}|\{{[^}}]*\b{name}\b[^}}]*\}});', sources[path], re.M)
+    return path.parent / (found[1] + '.rt') if found else path
+
+
 def in_code(cited, last, part):
     """X::f, X::m::f, X::f.c, ::f"""
     found = re.fullmatch(r'([a-z]\w*)?::((?:\w+::)*)(\w+)(?:\.(\w+))?', cited)
@@ -128,6 +134,8 @@ def in_code(cited, last, part):
         folder = crates / crate / 'src'
         last['module'] = next((path for path in (folder / (name + '.rt') for name in (*outer[:1], 'lib', 'main')) if path in sources), None)
     path = last.get('module')
+    if path:
+        path = last['module'] = handed_on(path, (outer or [item])[0])
     last.update(path=path, item=item, specs=None, whole='')
     if not path:
         return 'no such crate'

@@ -11,6 +11,7 @@ pub mod Unbeaten
 pub mod Tests
 pub mod RivalClauses
 pub mod Accepted
+pub mod Ranges
 pub mod Stored
 pub mod WorkedBoard
 pub mod TriedBoards

@@ -1,36 +1,9 @@
 // Reads jobs on standard input, each ended by byte 255, and prints for each its layout or its refusal.
 #![tactic(auto)]
 
-ghost use Rattle.std.specs.Prelude.{◌+◌, ◌≤◌, ◌<◌, length};
+use printing::Route;
 
-// Prints the layout or the refusal of the job at a place, and returns the place of the next job. A failure to print is passed over.
-fn next_board(rt: &impl Print, s: &[u8], from: usize) -> usize
-    requires { from < length s.now }
-    ensures { (from < result) × (result ≤ length s.now + 1) }
-{
-    let to = texts::text_end(s, from);
-    let printed = printing::print_route(&s[from..to]);
-    let bytes = printed.bytes;
-    let _ = rt.write_all(&bytes[..printed.used]);
-    to + 1
-}
-
-// Prints the layout or the refusal of each job.
-fn print_boards(rt: &impl Print, s: &[u8]) {
-    let mut at = 0;
-    while at < s.len() {
-        at = next_board(rt, s, at);
-    }
-}
-
-// Room for the jobs.
-fn room() -> [u8; 1048576] {
-    [0u8; 1048576]
-}
-
-// Prints the layout or the refusal of each job on standard input.
+// Prints the layout or the refusal of each job on standard input. A failure to print is passed over.
 fn main(rt: HostRuntime) {
-    let mut input = room();
-    let n = files::read_full(&mut rt.reader(), &mut input);
-    print_boards(&rt, &input[..n]);
+    jobinput::print_each::<Route>(&rt);
 }

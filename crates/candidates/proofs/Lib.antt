@@ -1,4 +1,5 @@
 -- The laws of the definitions in specs/.
+pub mod NoCandidate
 pub mod Prefixes
 pub mod TrackBlocks
 pub mod FlagParts

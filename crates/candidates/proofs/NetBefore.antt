@@ -6,7 +6,7 @@ use mathlib.Core.List.{List, [], ◌∷◌, ◌++◌, map, map-append, Memᴰ}
 use native.Mathlib.Omega.{arith}
 use lib.Dec.{eqb}
 use lib.ListN.{length, get_or, take, set, replicate, length-map, get_or-replicate, get_or-append}
-use lib.Seq.{take-length, get_or-take, length-take-le, get_or-set_same, get_or-set_other}
+use lib.Seq.{take-length, length-take-le, get_or-set_same, get_or-set_other}
 use borrow.Author.Tests.{eqb-true, eqb-false, ne_eqb}
 use Rattle.lists.specs.Lists.{Each, EachPair}
 use Rattle.lists.proofs.Cases.{by_test}
@@ -14,12 +14,10 @@ use Rattle.lists.proofs.Laws.{Each-map}
 use Rattle.lists.proofs.Joins.{EachPair-map}
 use Rattle.lists.proofs.Places.{take_more, mem_at, pair_before, same_key}
 use Rattle.board.specs.declared.Net.{Net}
-use Rattle.board.specs.declared.StoredJob.{StoredJob}
-use Rattle.board.specs.Stored.{job_of, no_net}
+use Rattle.board.specs.Stored.{no_net}
 use Rattle.board.specs.Job.{Job}
 use Rattle.board.specs.Accepted.{AcceptedJob, AcceptedNet}
 use Rattle.board.specs.Tests.{is_before}
-use Rattle.board.specs.Stored.{AcceptedStored}
 use Rattle.std.specs.Prelude.{Option, None, Some, IfSome}
 use Rattle.std.specs.List.{position_from}
 use Rattle.std.proofs.lemmas.Iterator.Adapters.{position_from-zero}
@@ -160,19 +158,7 @@ pub before_all : (before : List (Option ℕ)) (job : Job) (i : ℕ) → length j
 unfolding preceding_of
 before_all before job i h p = rw (take_all i job.nets h) at p
 
--- ---- the same of a job by value
-module _ (s : StoredJob) (accepted : AcceptedStored s) (size : length s.nets ≡ 512) (i : ℕ) (h : i < s.nnets) where
-  pub within : i < length (job_of s).nets
-  within = let r = accepted.nets_room in omega (arith, length-take-le s.nnets s.nets (omega arith))
-
-  net_is : get_or (job_of s).nets i no_net ≡ get_or s.nets i no_net
-  net_is = get_or-take s.nnets s.nets i no_net h
-
-  pub net_accepted : AcceptedNet s.board (get_or s.nets i no_net)
-  net_accepted = rw net_is at (accepted_at (job_of s) accepted.accepted i within)
-
-  pub before_at : get_or (preceding_of (job_of s)) i None ≡ before_in (job_of s).nets (get_or s.nets i no_net)
-  before_at = rw net_is at (preceding_at (job_of s) accepted.accepted i within)
-
-  pub before_range : IfSome (get_or (preceding_of (job_of s)) i None) (λ k. k < 512)
-  before_range = preceding_range (job_of s) accepted.accepted i within
+-- the pins of a net that the job lends are on rows
+pub pins_at : (job : Job) → AcceptedJob job → (ns : List Net) → ns ≡ job.nets → (i : ℕ) → i < length ns →
+    let net = get_or ns i no_net in (1 ≤ net.left.0) × (net.left.0 ≤ 1024) × (1 ≤ net.right.0) × (net.right.0 ≤ 1024)
+pins_at job a ns e i h = rw e (pin_rows job a i (rw e at h))

@@ -6,7 +6,7 @@ use Rattle.std.specs.Prelude.{Option, None, Some}
 use Rattle.candidates.proofs.TrackBlocks.{none_blocked}
 use mathlib.Core.List.{List, [], ◌∷◌, ◌++◌, map, map-append}
 use native.Mathlib.Omega.{arith}
-use lib.ListN.{length, get_or, take, drop, set, replicate, length-append, length-map, length-drop}
+use lib.ListN.{length, get_or, take, drop, set, length-append, length-map, length-drop}
 use lib.Seq.{length-take-le, append_snoc}
 use Rattle.board.specs.declared.Board.{Board}
 use Rattle.board.specs.Length.{shortest, needed}
@@ -20,23 +20,24 @@ use Rattle.blockmap.specs.Clear.{flag, flag_tops}
 use Rattle.blockmap.proofs.ClearRows.{clear_same}
 use Rattle.blockmap.proofs.ClearTops.{flags_same, flags_length, flags_at}
 use Rattle.candidates.specs.declared.Candidate.{Candidate}
-use Rattle.candidates.specs.declared.Candidates.{Candidates}
-use Rattle.candidates.specs.Placed.{has_blocks, padded}
-use Rattle.candidates.specs.Gathered.{Eligible, tops_of, candidate_of, no_candidate, candidates_of, BlocksOf, leave_free, on_part, flag_slot, flag_slots, Slot, Slots, Gathered, eligible_from, eligible_nets}
-use Rattle.candidates.proofs.Prefixes.{padded_more}
+use Rattle.candidates.specs.SlotArrays.{Candidates, with_value}
+use Rattle.candidates.specs.Placed.{has_blocks}
+use Rattle.candidates.specs.Gathered.{Eligible, tops_of, candidate_of, no_candidate, candidates_over, BlocksOf, leave_free, on_part, flag_slot, flag_slots, Slot, Slots, Gathered, eligible_from, eligible_nets}
+use Rattle.candidates.proofs.Prefixes.{over_more}
 use Rattle.candidates.proofs.Eligible.{eligible_length}
 use Rattle.candidates.proofs.FlagParts.{part_same, part_length, part_at, part_below}
 
 -- ---- one more candidate
-pub slots_put : (board : Board) (c : Candidates) (xs : List Eligible) (x : Eligible) → c ≡ candidates_of board xs → length xs < 512
-    → record { count = c.count + 1; slots = set c.slots c.count (candidate_of board x) } ≡ candidates_of board (xs ++ (x ∷ []))
-unfolding candidates_of
-slots_put board c xs x e h =
+pub slots_put : (old : List Candidate) (board : Board) (c : Candidates) (xs : List Eligible) (x : Eligible) → c ≡ candidates_over old board xs → length xs < length old
+    → with_value c (candidate_of board x) ≡ candidates_over old board (xs ++ (x ∷ []))
+unfolding candidates_over with_value
+slots_put old board c xs x e h =
     let n : length xs + 1 ≡ length (xs ++ (x ∷ [])) = sym (length-append xs (x ∷ [])) in
     let f : Eligible → Candidate = λ y. candidate_of board y in
-    let s : set (padded no_candidate (map f xs)) (length xs) (f x) ≡ padded no_candidate (map f (xs ++ (x ∷ []))) =
-    rw (map-append f xs (x ∷ [])) (padded_more no_candidate (length xs) (f x) (map f xs) (length-map xs f) h) in
-    ap (λ (d : Candidates). record { count = d.count + 1; slots = set d.slots d.count (f x) }) e ∙ (λ i. record { count = n i; slots = s i })
+    let s : set (map f xs ++ drop (length xs) old) (length xs) (f x) ≡ map f (xs ++ (x ∷ [])) ++ drop (length xs + 1) old =
+    rw (map-append f xs (x ∷ [])) (over_more no_candidate (length xs) (f x) (map f xs) old (length-map xs f) h) in
+    ap (λ d. with_value d (f x)) e
+    ∙ (λ i. record { count = n i; slots = (s ∙ ap (λ k. map f (xs ++ (x ∷ [])) ++ drop k old) n) i })
 
 -- ---- the flags of one more candidate
 -- where no block is on the track, no row is closed
@@ -124,50 +125,51 @@ module _ (job : Job) (t : ℕ) where
       slots_below (suc i) xs (flag_slot job t i x bytes) j (omega arith) (omega arith) ∙ slot_below i x bytes j room l
 
   -- slot i among the candidates
-  in_slot : (board : Board) (pre xs : List Eligible) (x : Eligible) → get_or (candidates_of board (pre ++ (x ∷ xs))).slots (length pre) no_candidate ≡ candidate_of board x
-  unfolding candidates_of padded
-  in_slot board pre xs x = in_list pre (replicate (512 - length (map (candidate_of board) (pre ++ (x ∷ xs)))) no_candidate)
+  in_slot : (old : List Candidate) (board : Board) (pre xs : List Eligible) (x : Eligible)
+      → get_or (candidates_over old board (pre ++ (x ∷ xs))).slots (length pre) no_candidate ≡ candidate_of board x
+  unfolding candidates_over
+  in_slot old board pre xs x = in_list pre (drop (length (pre ++ (x ∷ xs))) old)
     where
       in_list : (ps : List Eligible) (rest : List Candidate) → get_or (map (candidate_of board) (ps ++ (x ∷ xs)) ++ rest) (length ps) no_candidate ≡ candidate_of board x
       in_list [] rest = refl
       in_list (p ∷ ps) rest = in_list ps rest
 
-  slot_holds : job.board.rows ≤ 1024 → (pre xs : List Eligible) (x : Eligible) (bytes : List ℕ) → (length pre + suc (length xs)) * 1024 ≤ length bytes
-      → Slot job t (candidates_of job.board (pre ++ (x ∷ xs))) (flag_slots job t (suc (length pre)) xs (flag_slot job t (length pre) x bytes)) (length pre) x
+  slot_holds : (old : List Candidate) → job.board.rows ≤ 1024 → (pre xs : List Eligible) (x : Eligible) (bytes : List ℕ) → (length pre + suc (length xs)) * 1024 ≤ length bytes
+      → Slot job t (candidates_over old job.board (pre ++ (x ∷ xs))) (flag_slots job t (suc (length pre)) xs (flag_slot job t (length pre) x bytes)) (length pre) x
   unfolding tops_of
-  slot_holds rows pre xs x bytes room =
+  slot_holds old rows pre xs x bytes room =
       let i = length pre in
       let part : i * 1024 + 1024 ≤ length bytes = omega arith in
       let size : length (flag_slot job t i x bytes) ≡ length bytes = slot_length i x bytes part in
       record {
-        here = in_slot job.board pre xs x;
+        here = in_slot old job.board pre xs x;
         clear = λ top a b.
             let p = top_range job.board x.net (shortest job.board x.net) top a b in
             slots_below (suc i) xs (flag_slot job t i x bytes) (i * 1024 + (top - 1)) (omega arith) (omega arith)
             ∙ slot_at i x bytes top rows part a b;
       }
 
-  pub slots_hold : job.board.rows ≤ 1024 → (pre xs : List Eligible) (bytes : List ℕ) → (length pre + length xs) * 1024 ≤ length bytes
-      → Slots job t (candidates_of job.board (pre ++ xs)) (flag_slots job t (length pre) xs bytes) (length pre) xs
+  pub slots_hold : (old : List Candidate) → job.board.rows ≤ 1024 → (pre xs : List Eligible) (bytes : List ℕ) → (length pre + length xs) * 1024 ≤ length bytes
+      → Slots job t (candidates_over old job.board (pre ++ xs)) (flag_slots job t (length pre) xs bytes) (length pre) xs
   unfolding flag_slots
-  slots_hold rows pre [] bytes room = tt
-  slots_hold rows pre (x ∷ xs) bytes room =
+  slots_hold old rows pre [] bytes room = tt
+  slots_hold old rows pre (x ∷ xs) bytes room =
       let n : length (pre ++ (x ∷ [])) ≡ suc (length pre) = length-append pre (x ∷ []) ∙ omega arith in
       let part : length pre * 1024 + 1024 ≤ length bytes = omega arith in
       let size : length (flag_slot job t (length pre) x bytes) ≡ length bytes = slot_length (length pre) x bytes part in (
-        slot_holds rows pre xs x bytes room,
-        rw (n, append_snoc pre x xs) at (slots_hold rows (pre ++ (x ∷ [])) xs (flag_slot job t (length pre) x bytes) (omega arith)),
+        slot_holds old rows pre xs x bytes room,
+        rw (n, append_snoc pre x xs) at (slots_hold old rows (pre ++ (x ∷ [])) xs (flag_slot job t (length pre) x bytes) (omega arith)),
       )
 
 -- the candidates and the flags hold the eligible nets
-pub gathered : (job : Job) (earlier : List ℕ) (t : ℕ) (c : Candidates) (before after : List ℕ) → AcceptedJob job → length job.nets * 1024 ≤ length before
-    → c ≡ candidates_of job.board (eligible_nets job earlier) → after ≡ flag_slots job t 0 (eligible_nets job earlier) before → Gathered job earlier t c after
-unfolding eligible_nets candidates_of
-gathered job earlier t c before after a room e f =
+pub gathered : (job : Job) (earlier : List ℕ) (t : ℕ) (old : List Candidate) (c : Candidates) (before after : List ℕ) → AcceptedJob job
+    → length job.nets * 1024 ≤ length before → c ≡ candidates_over old job.board (eligible_nets job earlier) → after ≡ flag_slots job t 0 (eligible_nets job earlier) before → Gathered job earlier t c after
+unfolding eligible_nets candidates_over
+gathered job earlier t old c before after a room e f =
     let rows = a.board_range.rows_range.1 in
     let few = a.nets_count in
     let count = eligible_length job earlier job.nets 0 in
     record {
       count_is = ap (λ d. d.count) e;
-      slots = rw (e, f) (slots_hold job t rows [] (eligible_from job earlier 0 job.nets) before (omega arith));
+      slots = rw (e, f) (slots_hold job t old rows [] (eligible_from job earlier 0 job.nets) before (omega arith));
     }

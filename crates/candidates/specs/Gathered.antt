@@ -11,10 +11,10 @@ use Rattle.blockmap.specs.declared.BlockMap.{BlockMap}
 use Rattle.blockmap.specs.Bits.{MapOf}
 use Rattle.blockmap.specs.Clear.{all_unset, flag_tops}
 use Rattle.candidates.specs.declared.Candidate.{Candidate}
-use Rattle.candidates.specs.declared.Candidates.{Candidates}
+use Rattle.candidates.specs.SlotArrays.{Candidates}
 use Rattle.candidates.specs.declared.NetTops.{NetTops}
-use Rattle.candidates.specs.declared.Wired.{Wired}
-use Rattle.candidates.specs.Placed.{has_blocks, padded, Placed, placed_numbers}
+use Rattle.board.specs.declared.Wired.{Wired}
+use Rattle.candidates.specs.Placed.{has_blocks, Placed, placed_numbers}
 pub use Rattle.blockmap.specs.Clear.{flag}
 
 -- an eligible net: one net, and its index among the nets of the job
@@ -47,7 +47,7 @@ tops_of board n =
 abbrev pub candidate_of : Board → Eligible → Candidate
 candidate_of board x = record { net = x.index; tops = tops_of board x.net }
 
--- what an unused slot holds
+-- what a slot holds in which no candidate was put
 abbrev pub no_candidate : Candidate
 no_candidate = record { net = 0; tops = record { need = 0; weight = 0; first = record { 0 = 0 }; last = record { 0 = 0 } } }
 
@@ -67,9 +67,9 @@ pub record Gathered (job : Job) (earlier : List ℕ) (t : ℕ) (c : Candidates) 
   pub count_is : c.count ≡ length (eligible_nets job earlier)
   pub slots : Slots job t c flags 0 (eligible_nets job earlier)
 
--- the candidates that the eligible nets xs are, and an empty record in every slot behind them
-unfoldable pub candidates_of : Board → List Eligible → Candidates
-candidates_of board xs = record { count = length xs; slots = padded no_candidate (map (candidate_of board) xs) }
+-- the candidates that the eligible nets xs are, in the first slots; every slot behind them holds what it held
+unfoldable pub candidates_over : List Candidate → Board → List Eligible → Candidates
+candidates_over old board xs = record { count = length xs; slots = map (candidate_of board) xs ++ drop (length xs) old }
 
 -- the blocks of track t by value: none, or the map of the rows that they close
 abbrev pub BlocksOf : Job → ℕ → Option BlockMap → Type 0
@@ -97,9 +97,9 @@ unfoldable pub flag_slots : Job → ℕ → ℕ → List Eligible → List ℕ �
 flag_slots job t i [] bytes = bytes
 flag_slots job t i (x ∷ xs) bytes = flag_slots job t (suc i) xs (flag_slot job t i x bytes)
 
--- what `gather` gives of the flags `before`, where stands[k] tells where the wire of net k stands: candidates and flags, every slot and
--- every byte of them, and so the eligible nets for every list of the nets with a wire
-pub record GatheredFrom (job : Job) (stands : List (Option Wired)) (t : ℕ) (before : List ℕ) (c : Candidates) (after : List ℕ) : Type 0 where
-  pub candidates : c ≡ candidates_of job.board (eligible_nets job (placed_numbers job stands))
+-- what `gather` makes of the slots `old` and the flags `before`, where stands[k] tells where the wire of net k stands: candidates and flags,
+-- every slot and every byte of them, and so the eligible nets for every list of the nets with a wire
+pub record GatheredFrom (job : Job) (stands : List (Option Wired)) (t : ℕ) (old : List Candidate) (before : List ℕ) (c : Candidates) (after : List ℕ) : Type 0 where
+  pub candidates : c ≡ candidates_over old job.board (eligible_nets job (placed_numbers job stands))
   pub bytes : after ≡ flag_slots job t 0 (eligible_nets job (placed_numbers job stands)) before
   pub gathered : (earlier : List ℕ) → Placed job stands earlier → Gathered job earlier t c after

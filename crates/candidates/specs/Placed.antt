@@ -6,7 +6,7 @@ use Rattle.board.specs.declared.Net.{Net}
 use Rattle.board.specs.Job.{Job}
 use Rattle.board.specs.Stored.{no_net}
 use Rattle.board.specs.Tests.{is_on, is_before}
-use Rattle.candidates.specs.declared.Wired.{Wired}
+use Rattle.board.specs.declared.Wired.{Wired}
 
 -- some block is on track t
 unfoldable pub has_blocks : Job → ℕ → Bool

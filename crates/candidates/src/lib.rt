@@ -1,25 +1,17 @@
 // The candidates for a track as values, and what makes a net one: the net that precedes it, the nets with a wire, the blocks of the track.
 #![tactic(auto)]
 
-ghost use Rattle.std.specs.Prelude.{◌≡◌, ℕ, ◌-◌, ◌≤◌, ◌<◌, get_or, eqb, None, IfSome};
+ghost use Rattle.std.specs.Prelude.{◌≡◌, ℕ, ◌-◌, ◌≤◌, ◌<◌, get_or, eqb, replicate, None, IfSome};
 ghost use Rattle.std.specs.List.{position_from};
-ghost use Rattle.board.specs.Stored.{job_of, AcceptedStored};
 ghost use Rattle.blockmap.specs.Bits.{MapOf};
 ghost use Rattle.candidates.specs.Placed.{preceding_of, eligible_at, has_blocks};
+ghost use Rattle.candidates.specs.SlotArrays.{NoValues, with_value};
 
 use blockmap::BlockMap;
-use board::{Row, Shape, StoredJob, Track};
-
-// Where a net with a wire stands: on a track, with its top at a row, in a shape.
-#[derive(Clone, Copy)]
-pub struct Wired {
-    pub track: Track,
-    pub top: Row,
-    pub shape: Shape,
-}
+use board::{Job, Row, Track, Wired};
 
 // Of one net at its shortest length: its needed rows, its weight, and its first and last top row.
-#[derive(Clone, Copy)]
+#[derive(Clone, Copy, Default)]
 pub struct NetTops {
     pub need: usize,
     pub weight: usize,
@@ -28,62 +20,83 @@ pub struct NetTops {
 }
 
 // An eligible net: its index in the job, and what the choice needs of it.
-#[derive(Clone, Copy)]
+#[derive(Clone, Copy, Default)]
 pub struct Candidate {
     pub net: usize,
     pub tops: NetTops,
 }
 
-// The eligible nets by rising index, in the first `count` slots.
+// Values in an array of fixed size, in the first `count` slots.
 #[derive(Clone, Copy)]
-pub struct Candidates {
+pub struct SlotArray<T> {
     pub count: usize,
-    pub slots: [Candidate; 512],
+    pub slots: [T; 512],
 }
+
+impl<T: Copy + Default> SlotArray<T> {
+    // No value.
+    pub fn none() -> Self
+        ensures { NoValues T.is_default result }
+    {
+        SlotArray {
+            count: 0,
+            slots: [T::default(); 512],
+        }
+    }
+
+    // Puts one value more, in the slot behind the others.
+    #[tactic(auto, unfolding(crate::specs::SlotArrays::with_value))]
+    pub fn push(&mut self, value: T)
+        requires { self.old.count < 512 }
+        ensures { self.new ≡ with_value self.old value }
+    {
+        self.slots[self.count] = value;
+        self.count += 1;
+    }
+}
+
+// The eligible nets by rising index.
+pub type Candidates = SlotArray<Candidate>;
 
 // Whether any block is on the track.
 #[tactic(auto, unfolding(crate::specs::Placed::has_blocks))]
-pub fn has_blocks(job: &StoredJob, track: Track) -> bool
-    requires { AcceptedStored job.now }
-    ensures { result ≡ has_blocks (job_of job.now) track.0 }
+pub fn has_blocks(job: &Job, track: Track) -> bool
+    ensures { result ≡ has_blocks job.now track.0 }
 {
-    job.blocks[..job.nblocks]
-        .iter()
-        .any(|block| block.track == track)
+    job.blocks().iter().any(|block| block.track == track)
 }
 
 // The blocked rows of a track.
-pub fn block_map(job: &StoredJob, track: Track) -> BlockMap
-    requires { AcceptedStored job.now }
-    ensures { MapOf (job_of job.now) track.0 result.words }
+pub fn block_map(job: &Job, track: Track) -> BlockMap
+    ensures { MapOf job.now track.0 result.words }
 {
     let mut map = blockmap::no_rows();
-    for block in &job.blocks[..job.nblocks] {
+    for block in job.blocks() {
         map = blockmap::with_block_on(map, track, *block);
     }
     map
 }
 
-// For each row, at index row − 1, the index of the net whose left pin is there, if there is one.
-fn nets_by_left(job: &StoredJob) -> [Option<usize>; 1024]
-    requires { AcceptedStored job.now }
-    ensures { (row : ℕ) → 1 ≤ row → row ≤ 1024 → get_or result (row - 1) None ≡ position_from (λ n. eqb n.left.0 row) 0 (job_of job.now).nets }
+// For each row, at index row − 1, the index of the net whose left pin is there, if there is one: put into a table of None.
+#[tactic(auto, using(crate::proofs::NetBefore::pins_at))]
+fn nets_by_left(job: &Job, by_left: &mut [Option<usize>; 1024])
+    requires { by_left.old ≡ replicate 1024 None }
+    ensures { (row : ℕ) → 1 ≤ row → row ≤ 1024 → get_or by_left.new (row - 1) None ≡ position_from (λ n. eqb n.left.0 row) 0 job.now.nets }
 {
-    let mut by_left = [None; 1024];
-    for (i, net) in job.nets[..job.nnets].iter().enumerate() {
+    for (i, net) in job.nets().iter().enumerate() {
         by_left[net.left.0 - 1] = Some(i);
     }
-    by_left
 }
 
 // For each net, the index of the net that precedes it, if one does: worked out once a job, so that eligibility is a look-up.
-pub fn preceding(job: &StoredJob) -> [Option<usize>; 512]
-    requires { AcceptedStored job.now }
-    ensures { result ≡ preceding_of (job_of job.now) }
+#[tactic(auto, using(crate::proofs::NetBefore::pins_at))]
+pub fn preceding(job: &Job) -> [Option<usize>; 512]
+    ensures { result ≡ preceding_of job.now }
 {
-    let by_left = nets_by_left(job);
+    let mut by_left = [None; 1024];
+    nets_by_left(job, &mut by_left);
     let mut before = [None; 512];
-    for (i, net) in job.nets[..job.nnets].iter().enumerate() {
+    for (i, net) in job.nets().iter().enumerate() {
         before[i] = by_left[net.right.0 - 1];
     }
     before

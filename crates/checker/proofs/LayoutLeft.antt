@@ -7,7 +7,6 @@ use native.Mathlib.Omega.{arith}
 use lib.ListN.{length, take, drop, replicate}
 use Rattle.board.specs.Job.{Job}
 use Rattle.blockmap.proofs.RowBits.{get_d_zeros}
-use Rattle.board.specs.Accepted.{AcceptedJob}
 use Rattle.lines.specs.Places.{step_at}
 use Rattle.lines.specs.Stepped.{Stepped}
 use Rattle.lines.specs.declared.Place.{Place}
@@ -15,12 +14,11 @@ use Rattle.lines.specs.declared.Line.{Line}
 use Rattle.lines.proofs.Steps.{stepped}
 use Rattle.layoutforms.specs.LayoutForms.{layout_form_of}
 use Rattle.drc.specs.Standing.{lines_read}
-use Rattle.drc.specs.Judge.{Verdict, broken_at, judge}
+use Rattle.drc.specs.Judge.{Verdict, broken_at}
 use Rattle.drc.specs.Pass.{PassState, unbegun, running, finished, PassStep, passes_on, decides, pass_ill_formed, pass_step, pass_end, after_step, pass_from, pass_over}
-use Rattle.drc.proofs.OnePass.{one_pass}
 use Rattle.judging.specs.declared.LinesJudged.{LinesJudged}
 use Rattle.judging.specs.declared.LinesJudged.TheVariants as Is
-use Rattle.judging.specs.Judged.{KeepsState, KeepsStep, JudgedInRange}
+use Rattle.judging.specs.Judged.{KeepsState, KeepsStep}
 use Rattle.judging.specs.Values.{track_of, closed_of, MapOf}
 use Rattle.judging.proofs.Turns.{closes_ill_formed}
 use Rattle.layoutsteps.specs.declared.LayoutLine.{LayoutLine}
@@ -76,7 +74,6 @@ undecided job (decides v) j stands k = absurd k
 pub record LayoutLeft (job : Job) (s : List ℕ) (j : LinesJudged) (stands words : List ℕ) (p : Place) : Type 0 where
   pub state : PassState
   pub keeps : KeepsState job state j stands
-  pub range : JudgedInRange p.passed j
   pub map : MapOf job (track_of j).0 words
   pub counted : p.passed ≤ p.at
   pub inside : p.at ≤ length s
@@ -89,7 +86,6 @@ left_start job s words p room blocks f h =
     record {
       state = unbegun;
       keeps = (room, get_d_zeros 512);
-      range = tt;
       map = blocks;
       counted = omega arith;
       inside = omega arith;
@@ -123,16 +119,15 @@ module _ (job : Job) (s : List ℕ) (j : LinesJudged) (stands words : List ℕ) 
     pub left_broken : (l : ℕ) (after : List ℕ) → KeepsStep job led (Err l) after → pass_over job s ≡ broken_at l
     left_broken l after k = turn ∙ decided job led l after _ k
 
-    pub left_more : (i : LinesJudged) (after words' : List ℕ) → KeepsStep job led (Ok i) after → JudgedInRange (p.passed + 1) i → MapOf job (track_of i).0 words' →
+    pub left_more : (i : LinesJudged) (after words' : List ℕ) → KeepsStep job led (Ok i) after → MapOf job (track_of i).0 words' →
         LayoutLeft job s i after words' x.next
     unfolding after_step
-    left_more i after words' k r blocks =
+    left_more i after words' k blocks =
         let g = undecided job led i after k in
         let c = left_moved.counted in
         record {
           state = g.state;
           keeps = g.keeps;
-          range = rw c r;
           map = blocks;
           counted = omega (arith, left_moved.ahead, w.counted);
           inside = left_moved.within;
@@ -148,12 +143,12 @@ module _ (job : Job) (s : List ℕ) (j : LinesJudged) (stands words : List ℕ) 
 
 -- ---- the answers
 
-pub answer_end : (job : Job) → AcceptedJob job → (s : List ℕ) (v : Verdict) → pass_over job s ≡ v → verdict_answer v ≡ verdict_answer (judge job s)
-answer_end job a s v e = ap verdict_answer (sym e ∙ one_pass job a s)
+pub answer_end : (job : Job) (s : List ℕ) (v : Verdict) → pass_over job s ≡ v → verdict_answer v ≡ verdict_answer (pass_over job s)
+answer_end job s v e = ap verdict_answer (sym e)
 
-pub answer_broken : (job : Job) → AcceptedJob job → (s : List ℕ) (l : ℕ) → pass_over job s ≡ broken_at l → Err (Broken l) ≡ verdict_answer (judge job s)
+pub answer_broken : (job : Job) (s : List ℕ) (l : ℕ) → pass_over job s ≡ broken_at l → Err (Broken l) ≡ verdict_answer (pass_over job s)
 unfolding verdict_answer
-answer_broken job a s l e = answer_end job a s (broken_at l) e
+answer_broken job s l e = answer_end job s (broken_at l) e
 
 -- the end of the text
 

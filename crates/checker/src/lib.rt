@@ -1,21 +1,19 @@
 // Check: a layout text is sound for a job, or broken at its first broken line.
 #![tactic(auto)]
 
-ghost use Rattle.std.specs.Prelude.{◌≡◌, List, ℕ, ◌≤◌, length, Err};
+ghost use Rattle.std.specs.Prelude.{◌≡◌, List, ℕ, Err};
 ghost use Rattle.checker.specs.declared.CheckError.TheVariants.{Refused};
 ghost use Rattle.board.specs.Job.{Job};
-ghost use Rattle.board.specs.Stored.{job_of};
 ghost use Rattle.jobfile.specs.Read.{read_job};
-ghost use Rattle.drc.specs.Judge.{judge};
-ghost use Rattle.drc.specs.Pass.{PassState, pass_end};
+ghost use Rattle.drc.specs.Pass.{PassState, pass_end, pass_over};
 ghost use Rattle.judging.specs.Judged.{KeepsState};
-ghost use Rattle.layoutsteps.specs.Found.{NetTables};
 ghost use Rattle.checker.specs.Answers.{check_values, verdict_answer, document_verdict, check_answer};
 ghost use Rattle.checker.specs.RightVerdict.{RightVerdict};
 
-use board::{StoredJob, Track};
+use board::Track;
 use jobfile::Refusal;
 use judging::LinesJudged;
+use layoutsteps::NetTables;
 use lines::Place;
 
 // Why a layout doesn't pass the check: a refusal, or a broken line.
@@ -81,21 +79,11 @@ fn finish(m: LinesJudged, line: usize) -> Result<(), CheckError>
     }
 }
 
-// The verdict on a layout text, line by line, where the numbers of the job's nets and the net that precedes each net are worked out. The
-// job is lent; of it only the net of a line goes by value.
-fn judge_lines<'a>(
-    job: &StoredJob,
-    numbers: &'a [usize; 512],
-    before: &'a [Option<usize>; 512],
-    text: &[u8],
-) -> Result<(), CheckError>
-    requires net_tables { NetTables job.now numbers.now before.now }
-    requires text_len_bound { length text.now ≤ 64000 }
-    ensures { result ≡ verdict_answer (judge (job_of job.now) text.now) }
+// The verdict on a layout text: one pass over its lines. The job is lent; of it only the net of a line goes by value.
+fn judge_lines(tables: NetTables, text: &[u8]) -> Result<(), CheckError>
+    ensures { result ≡ verdict_answer (pass_over tables.entry.job.now text.now) }
 {
-    let board = job.board;
-    let nets = &job.nets[..job.nnets];
-    let count = nets.len();
+    let job = tables.job;
     let mut stands = [0usize; 512];
     let mut map = candidates::block_map(job, Track(0));
     let mut m = LinesJudged::Unbegun;
@@ -104,20 +92,10 @@ fn judge_lines<'a>(
         let line = place.passed + 1;
         place = read.next;
         let form = read.form;
-        let found = layoutsteps::find_net(nets, numbers, before, form);
+        let found = tables.find_net(form);
         let above = m.track();
         let s = &text[read.from..read.to];
-        let led = layoutsteps::take_line(
-            board,
-            count,
-            found,
-            &map.words,
-            &mut stands,
-            m,
-            line,
-            form,
-            s,
-        );
+        let led = layoutsteps::take_line(job, found, &map.words, &mut stands, m, line, form, s);
         m = led.map_err(CheckError::Broken)?;
         let track = m.track();
         if track.0 != above.0 {
@@ -133,11 +111,16 @@ pub fn check(job: &[u8], layout: &[u8]) -> Result<(), CheckError>
     ensures values { check_values result ≡ document_verdict (read_job job.now) layout.now }
     ensures right { RightVerdict job.now layout.now result }
 {
-    let stored = reader::read(job)?;
+    let accepted = reader::accept(job)?;
     if 64000 < layout.len() {
         return Err(CheckError::LayoutTooLong);
     }
-    let numbers = judging::nets::numbers_of(&stored);
-    let before = candidates::preceding(&stored);
-    judge_lines(&stored, &numbers, &before, layout)
+    let numbers = judging::nets::numbers_of(&accepted);
+    let before = candidates::preceding(&accepted);
+    let tables = NetTables {
+        job: &accepted,
+        numbers: &numbers,
+        before: &before,
+    };
+    judge_lines(tables, layout)
 }

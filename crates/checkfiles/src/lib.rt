@@ -1,7 +1,6 @@
 // The check of the files board.job and board.lay of the current folder.
 #![tactic(auto)]
 
-ghost use Rattle.std.specs.Counts.{IsPrefixLen};
 ghost use Rattle.files.specs.FileTexts.{ReadText};
 ghost use Rattle.checkfiles.specs.LineOfFiles.{LineOfFiles};
 
@@ -22,22 +21,15 @@ pub fn checked_files(rt: &impl Files, job_path: &[u8], layout_path: &[u8]) -> Ch
     ensures job { ReadText result.job }
     ensures layout { ReadText result.layout }
     ensures line { LineOfFiles result }
-    ensures counts { IsPrefixLen result.line.used result.line.bytes }
 {
     let job = files::file_text(rt, job_path);
     let layout = files::file_text(rt, layout_path);
-    let job_bytes = job.bytes;
-    let job_used = job.used;
-    let layout_bytes = layout.bytes;
-    let layout_used = layout.used;
-    let line = verdicts::print_check(&job_bytes[..job_used], &layout_bytes[..layout_used]);
+    let line = verdicts::print_check(job.text(), layout.text());
     CheckedFiles { job, layout, line }
 }
 
 // Checks board.lay for board.job, and prints the verdict. A failure to print is passed over.
 pub fn check_files(rt: &(impl Files + Print)) {
     let checked = checked_files(rt, b"board.job", b"board.lay");
-    let line = checked.line;
-    let bytes = line.bytes;
-    let _ = rt.write_all(&bytes[..line.used]);
+    let _ = rt.write_all(checked.line.text());
 }

@@ -34,6 +34,6 @@ index_place i (m ∷ l) (suc x) {n} r e =
     rw (ne_eqb m.number n.number (λ (z : m.number ≡ n.number). omega arith)) (index_place (i + 1) l x r.1 e ∙ ap (λ (k : ℕ). Some k) (omega arith))
 
 pub index_of_place : (job : Job) (x : ℕ) {n : Net} {ns : List Net} → EachPair (λ a b. a.number < b.number) job.nets →
-    drop x job.nets ≡ n ∷ ns → index_of job (Some n) ≡ x
+    drop x job.nets ≡ n ∷ ns → index_of job (Some n) ≡ Some x
 unfolding index_of
-index_of_place job x r e = rw (index_place 0 job.nets x r e) (omega arith)
+index_of_place job x r e = index_place 0 job.nets x r e ∙ ap (λ (k : ℕ). Some k) (omega arith)

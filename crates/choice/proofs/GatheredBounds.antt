@@ -15,7 +15,7 @@ use Rattle.board.proofs.ShortestShape.{needed_covered, needed_pos}
 use Rattle.board.proofs.Weights.{weight_range}
 use Rattle.board.proofs.Tops.{last_top_room, accepted_fits}
 use Rattle.board.specs.Tests.{is_eligible}
-use Rattle.candidates.specs.declared.Candidates.{Candidates}
+use Rattle.candidates.specs.SlotArrays.{Candidates}
 use Rattle.candidates.specs.Gathered.{Eligible, eligible_from, eligible_nets, tops_of, candidate_of, Slot, Slots, Gathered}
 use Rattle.candidates.proofs.Eligible.{eligible_length}
 use Rattle.choice.specs.Filled.{slot, SlotInBounds, InBounds}

@@ -3,7 +3,7 @@
 use Prim.Native.Nat.{ℕ, suc, ◌+◌, ◌-◌, ◌≤◌, ◌<◌}
 use mathlib.Core.Path.{◌≡◌, refl, sym, ap, ◌∙◌, subst}
 use mathlib.Core.Bool.{Bool, true, false, ◌&&◌}
-use Rattle.std.specs.Prelude.{None, Some, unwrap_or}
+use Rattle.std.specs.Prelude.{None, Some}
 use mathlib.Core.List.{List, [], ◌∷◌}
 use native.Mathlib.Omega.{arith}
 use lib.Dec.{leb, ltb, eqb}
@@ -26,11 +26,11 @@ use Rattle.packing.proofs.Fitting.{fits_within}
 use Rattle.packing.proofs.ByRow.{table_row}
 use Rattle.packing.proofs.OnePass as O
 use Rattle.candidates.specs.declared.Candidate.{Candidate}
-use Rattle.candidates.specs.declared.Candidates.{Candidates}
+use Rattle.candidates.specs.SlotArrays.{Candidates}
 use Rattle.candidates.specs.Gathered.{Eligible, eligible_from, eligible_nets, tops_of, flag, Slot, Slots, Gathered}
 use Rattle.choice.specs.declared.Pick.{Pick}
-use Rattle.choice.specs.TrackPlans.{no_choice, index_of}
-use Rattle.choice.specs.Filled.{slot, has_clear_top, sum_at, pick_to}
+use Rattle.choice.specs.TrackPlans.{index_of}
+use Rattle.choice.specs.Filled.{slot, listed, has_clear_top, sum_at, pick_to}
 use Rattle.choice.proofs.Picking.{better_more, better_not, pick_suc_taken, pick_suc_passed}
 use Rattle.choice.proofs.EligibleNets.{eligible_at, eligible_here, eligible_later, other_fits}
 use Rattle.choice.proofs.ChosenIndex.{drop_next, index_of_place}
@@ -42,7 +42,7 @@ flag_is false = refl
 module _ (job : Job) (earlier : List ℕ) (t : ℕ) (c : Candidates) (flags : List ℕ) (j : ℕ) where
   -- the code's test is the model's
   slot_stands : (i : ℕ) (x : Eligible) → Slot job t c flags i x → is_eligible job earlier x.net ≡ true →
-      has_clear_top (slot c i) flags j i ≡ fits_at job earlier t x.net j
+      has_clear_top (listed c i) flags j ≡ fits_at job earlier t x.net j
   unfolding has_clear_top fits_at tops_of
   slot_stands i x s e =
       by_test (leb (first_top x.net (shortest job.board x.net)) j && leb j (last_top job.board x.net (shortest job.board x.net)))
@@ -56,7 +56,7 @@ module _ (job : Job) (earlier : List ℕ) (t : ℕ) (c : Candidates) (flags : Li
     -- the pick by index and the pick by net are the same
     pub record Same (p : Pick) (q : O.PassPick) : Type 0 where
       pub sum : p.sum ≡ q.sum
-      pub net : unwrap_or p.at no_choice ≡ index_of job q.net
+      pub net : p.at ≡ index_of job q.net
 
     -- best(r) stands at index r of `best`, as in the model's `below`
     abbrev Holds : Type 0
@@ -75,12 +75,12 @@ module _ (job : Job) (earlier : List ℕ) (t : ℕ) (c : Candidates) (flags : Li
 
     -- one candidate more, and the same net in the pass over all nets; `go` is the rest of both
     step_same : Holds → (i m : ℕ) (x : Eligible) (ns : List Net) (q : O.PassPick) → Slot job t c flags i x → is_eligible job earlier x.net ≡ true →
-        x.index ≡ index_of job (Some x.net) → Same (picked_to i) q → ((r : O.PassPick) → Same (picked_to (suc i)) r → Same (picked_to m) (passed_nets ns r)) →
+        Some x.index ≡ index_of job (Some x.net) → Same (picked_to i) q → ((r : O.PassPick) → Same (picked_to (suc i)) r → Same (picked_to m) (passed_nets ns r)) →
         Same (picked_to m) (passed_nets (x.net ∷ ns) q)
     step_same h i m x ns q s e d k go =
         by_test (fits_at job earlier t x.net j)
         (λ f.
-        let can : has_clear_top (slot c i) flags j i ≡ true = slot_stands i x s e ∙ f in
+        let can : has_clear_top (listed c i) flags j ≡ true = slot_stands i x s e ∙ f in
         let v : sum_at (slot c i) best j ≡ sum_with job.board below x.net = slot_sum h i x s f in
         let a = pick_suc_taken c flags best j i can in
         by_test (ltb q.sum (sum_with job.board below x.net))
@@ -88,7 +88,7 @@ module _ (job : Job) (earlier : List ℕ) (t : ℕ) (c : Candidates) (flags : Li
         let l' : q.sum < sum_with job.board below x.net = ltb-true _ _ l in
         let b = better_more (picked_to i) (sum_at (slot c i) best j) (slot c i).net (omega (arith, k.sum)) in
         subst (Same (picked_to m)) (sym (O.scan_take job earlier t j below x.net ns q f l))
-        (go (O.took job earlier t j below x.net) (subst (λ p. Same p (O.took job earlier t j below x.net)) (sym (a ∙ b)) (record { sum = v; net = (ap (λ (y : Candidate). y.net) s.here) ∙ d }))))
+        (go (O.took job earlier t j below x.net) (subst (λ p. Same p (O.took job earlier t j below x.net)) (sym (a ∙ b)) (record { sum = v; net = ap (λ (y : Candidate). Some y.net) s.here ∙ d }))))
         (λ l.
         let l' : sum_with job.board below x.net ≤ q.sum = ltb-false _ _ l in
         let b = better_not (picked_to i) (sum_at (slot c i) best j) (slot c i).net (omega (arith, k.sum)) in
@@ -117,7 +117,7 @@ module _ (job : Job) (earlier : List ℕ) (t : ℕ) (c : Candidates) (flags : Li
   -- ---- the row: where best has best(r) at index r for the rows r below j
   pub row_pick_best : (best : List ℕ) → Gathered job earlier t c flags → EachPair (λ a b. a.number < b.number) job.nets → 1 ≤ j → j ≤ job.board.rows →
       ((r : ℕ) → j < r → r ≤ job.board.rows + 1 → get_or best r 0 ≡ M.best job earlier t r) →
-      ((pick_to c flags best j c.count).sum ≡ M.best job earlier t j) × (unwrap_or (pick_to c flags best j c.count).at no_choice ≡ index_of job (choice_at job earlier t j))
+      ((pick_to c flags best j c.count).sum ≡ M.best job earlier t j) × ((pick_to c flags best j c.count).at ≡ index_of job (choice_at job earlier t j))
   unfolding pick_to M.best choice_at index_of eligible_nets
   row_pick_best best g rise l h b =
       let k : ℕ = job.board.rows - j in

@@ -5,13 +5,13 @@ ghost use Rattle.std.specs.Prelude.{◌≡◌, ◌+◌, ◌*◌, ◌≤◌, ◌<
 ghost use Rattle.choice.specs.Filled.{has_clear_top, better, in_band, band_to, pick_among, filled_plan, InBounds, RowInBounds};
 
 use board::Row;
-use candidates::{Candidate, Candidates};
+use candidates::{Candidate, Candidates, SlotArray};
 
 // The plan of a track holds a choice for each of its rows: the index of the net that is taken with its top at that row (row j at
-// place j − 1), or 512 for none; and the track's sum, best(1).
+// place j − 1), None where none is; and the track's sum, best(1).
 #[derive(Clone, Copy)]
 pub struct TrackPlan {
-    pub choice: [usize; 1024],
+    pub choice: [Option<usize>; 1024],
     pub sum: usize,
 }
 
@@ -22,12 +22,16 @@ pub struct Pick {
     pub at: Option<usize>,
 }
 
-// The candidates that have a top in a band of rows: how many, and their slots from place 0 on, rising.
-#[derive(Clone, Copy)]
-pub struct Band {
-    pub count: usize,
-    pub index: [usize; 512],
+// A candidate that is listed for a band of rows, and which part of the flags is its own.
+#[derive(Clone, Copy, Default)]
+pub struct Listed {
+    pub part: usize,
+    pub candidate: Candidate,
 }
+
+// The candidates that have a top in a band of rows, by rising part. They are copied, so that a row's pass goes through records that lie one
+// behind the other.
+pub type Band = SlotArray<Listed>;
 
 // The pick after one more net: it takes over only where its sum is more, so that of equal nets the first in the list is chosen.
 #[tactic(auto, unfolding(crate::specs::Filled::better))]
@@ -41,17 +45,17 @@ fn take_better(p: Pick, sum: usize, net: usize) -> Pick
     }
 }
 
-// Whether candidate x, which has part i of the flags, can stand with its top at a row. The flags are read at its own tops only: outside
-// them they hold anything.
+// Whether a listed candidate can stand with its top at a row. The flags are read at its own tops only: outside them they hold anything.
 #[tactic(auto, unfolding(crate::specs::Filled::has_clear_top))]
-fn has_clear_top(x: &Candidate, flags: &[u8], i: usize, row: Row) -> bool
-    requires { (1 ≤ row.0) × (row.0 ≤ 1024) × (i < 512) × (i * 1024 + 1024 ≤ length flags.now) }
-    ensures { result ≡ has_clear_top x.now flags.now row.0 i }
+fn has_clear_top(x: &Listed, flags: &[u8], row: Row) -> bool
+    requires { (1 ≤ row.0) × (row.0 ≤ 1024) × (x.now.part < 512) × (x.now.part * 1024 + 1024 ≤ length flags.now) }
+    ensures { result ≡ has_clear_top x.now flags.now row.0 }
 {
     let j = row.0;
+    let tops = &x.candidate.tops;
     // one test of both ends, since either alone is as likely to hold as not
-    let inside = (x.tops.first.0 <= j) & (j <= x.tops.last.0);
-    inside && flags[i * 1024 + (j - 1)] == 1
+    let inside = (tops.first.0 <= j) & (j <= tops.last.0);
+    inside && flags[x.part * 1024 + (j - 1)] == 1
 }
 
 // Whether a candidate has a top in rows lo to hi.
@@ -64,14 +68,16 @@ fn has_top(x: &Candidate, lo: Row, hi: Row) -> bool
 
 // Lists the candidates that have a top in rows lo to hi, over those of another band.
 fn list_band(c: &Candidates, lo: Row, hi: Row, band: &mut Band)
-    requires { c.now.count ≤ 512 }
-    ensures { band.new ≡ band_to c.now lo.0 hi.0 band.old.index c.now.count }
+    requires { (c.now.count ≤ 512) × (length band.old.slots ≡ 512) }
+    ensures { band.new ≡ band_to c.now lo.0 hi.0 band.old.slots c.now.count }
 {
     band.count = 0;
     for (i, x) in c.slots[..c.count].iter().enumerate() {
         if has_top(x, lo, hi) {
-            band.index[band.count] = i;
-            band.count += 1;
+            band.push(Listed {
+                part: i,
+                candidate: *x,
+            });
         }
     }
 }
@@ -86,18 +92,18 @@ fn band_start(row: Row) -> Row
 }
 
 // best(j) and the choice for row j, in one pass over the candidates listed in a band; best[r] is best(r) for the rows r below j.
-fn row_pick(c: &Candidates, band: &Band, flags: &[u8], best: &[usize; 1026], row: Row) -> Pick
-    requires { RowInBounds c.now flags.now best.now row.0 band.now }
-    ensures { result ≡ pick_among c.now flags.now best.now row.0 band.now.index band.now.count }
+fn row_pick(band: &Band, flags: &[u8], best: &[usize; 1026], row: Row) -> Pick
+    requires { RowInBounds flags.now best.now row.0 band.now }
+    ensures { result ≡ pick_among flags.now best.now row.0 band.now.slots band.now.count }
 {
     let j = row.0;
     let mut p = Pick {
         sum: best[j + 1],
         at: None,
     };
-    for i in &band.index[..band.count] {
-        let x = &c.slots[*i];
-        if has_clear_top(x, flags, *i, row) {
+    for listed in &band.slots[..band.count] {
+        if has_clear_top(listed, flags, row) {
+            let x = &listed.candidate;
             let sum = x.tops.weight + best[j + x.tops.need];
             p = take_better(p, sum, x.net);
         }
@@ -112,21 +118,18 @@ pub fn fill(c: &Candidates, flags: &[u8], rows: usize) -> TrackPlan
     ensures { result ≡ filled_plan c.now flags.now rows }
 {
     let mut best = [0; 1026];
-    let mut choice = [512; 1024];
+    let mut choice = [None; 1024];
     let mut start = rows + 1;
-    let mut listed = Band {
-        count: 0,
-        index: [0; 512],
-    };
+    let mut band = Band::none();
     for j in (1..rows + 1).rev() {
         if j < start {
             let from = band_start(Row(j));
-            list_band(c, from, Row(j), &mut listed);
+            list_band(c, from, Row(j), &mut band);
             start = from.0;
         }
-        let p = row_pick(c, &listed, flags, &best, Row(j));
+        let p = row_pick(&band, flags, &best, Row(j));
         best[j] = p.sum;
-        choice[j - 1] = p.at.unwrap_or(512);
+        choice[j - 1] = p.at;
     }
     TrackPlan {
         choice,

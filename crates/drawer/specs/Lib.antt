@@ -1,3 +1,4 @@
 -- A plan drawn as the text of a layout.
 pub mod PlanText
+pub mod Once
 pub mod Parts

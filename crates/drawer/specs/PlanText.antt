@@ -6,7 +6,7 @@ use Rattle.board.specs.Job.{Job}
 use Rattle.layout.specs.Tree.{Layout}
 use Rattle.layout.specs.LayoutText.{layout_text}
 use Rattle.routing.specs.DrawnTracks.{drawn_tracks}
-use Rattle.candidates.specs.declared.Wired.{Wired}
+use Rattle.board.specs.declared.Wired.{Wired}
 use Rattle.planner.specs.declared.JobPlan.{JobPlan}
 use Rattle.planner.specs.Chosen.{tracks_of, loose_nets}
 

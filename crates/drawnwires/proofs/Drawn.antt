@@ -16,8 +16,10 @@ use Rattle.text.specs.Bytes.{same}
 use Rattle.text.specs.Written.{Written}
 use Rattle.text.proofs.Bytes.{same_true, same_false}
 use Rattle.board.specs.declared.Board.{Board}
+use Rattle.board.specs.declared.BoardNet.{BoardNet}
 use Rattle.board.specs.declared.Net.{Net}
 use Rattle.board.specs.declared.Track.{Track}
+use Rattle.board.specs.declared.Wired.{Wired}
 use Rattle.board.specs.Placement.{Placement, bottom, placement_at}
 use Rattle.board.specs.Tests.{is_from_one, is_over_upper, is_under_lower, is_to_last}
 use Rattle.layout.specs.declared.Point.{Point}
@@ -34,33 +36,32 @@ use Rattle.writer.specs.Lines.{wire_line, Drawable}
 use Rattle.drc.specs.Covers.{same_points, is_on_board, drawn_of}
 use Rattle.drc.proofs.Drawings.{same_points_true, same_points_refl}
 use Rattle.drawnwires.specs.DrawnPlaces.{place_of, only_place, wire_text, OnBoard, DrawnIn}
-use Rattle.drawnwires.specs.declared.DrawnPlace.{DrawnPlace}
 
 -- ---- the one placement
 
 -- a placement of a net without it
-abbrev pub only_placement : Net → DrawnPlace → Placement
+abbrev pub only_placement : Net → Wired → Placement
 only_placement n p = placement_at n p.shape p.top.0
 
-placement_from_rows : (t : ℕ) (n : Net) (ps : List Point) (o : Option ℕ) →
-    only_placement n (only_place n (option_map (λ u. record { first = u; last = last_in (wire_column t) u ps }) o)) ≡ placement_from n ps t o
+placement_from_rows : (t : Track) (n : Net) (ps : List Point) (o : Option ℕ) →
+    only_placement n (only_place n t (option_map (λ u. record { first = u; last = last_in (wire_column t.0) u ps }) o)) ≡ placement_from n ps t.0 o
 unfolding only_place placement_from
 placement_from_rows t n ps None = refl
 placement_from_rows t n ps (Some u) = refl
 
-pub only_one : (t : ℕ) (n : Net) (ps : List Point) → only_placement n (only_place n (rows_in (wire_column t) ps)) ≡ placement_of t n ps
+pub only_one : (t : Track) (n : Net) (ps : List Point) → only_placement n (only_place n t (rows_in (wire_column t.0) ps)) ≡ placement_of t.0 n ps
 unfolding rows_in placement_of
-only_one t n ps = placement_from_rows t n ps (first_in (wire_column t) ps)
+only_one t n ps = placement_from_rows t n ps (first_in (wire_column t.0) ps)
 
 -- ---- the line of a wire
 
 -- the texts of two wires with one number are the same exactly if their points are
-pub same_drawing : (board : Board) (track : Track) (n : Net) (p : DrawnPlace) (s : List ℕ) (w : Wire) → read_line s ≡ Some (wire w) → w.number ≡ n.number →
-    same_points (points_on board track.0 (only_placement n p)) w.points ≡ same s (wire_text board track n p)
+pub same_drawing : (n : BoardNet) (p : Wired) (s : List ℕ) (w : Wire) → read_line s ≡ Some (wire w) → w.number ≡ n.net.number →
+    same_points (points_on n.board p.track.0 (only_placement n.net p)) w.points ≡ same s (wire_text n p)
 unfolding wire_text wire_of
-same_drawing board track n p s w r e =
-    let q = points_on board track.0 (only_placement n p) in
-    let v : Wire = record { number = n.number; points = q } in
+same_drawing n p s w r e =
+    let q = points_on n.board p.track.0 (only_placement n.net p) in
+    let v : Wire = record { number = n.net.number; points = q } in
     let l = (read_line_sound s (wire w) r).0 in
     by_test (same s (line_text (wire v)))
     (λ h.
@@ -75,32 +76,32 @@ same_drawing board track n p s w r e =
     (λ g. g ∙ sym h))
 
 -- a wire that ends on the board can be drawn, and its line is short
-module _ {board : Board} {track : Track} {n : Net} {p : DrawnPlace} (o : OnBoard board track n p) where
-  pub drawable_on : Drawable board track n p.shape p.top
+module _ {n : BoardNet} {p : Wired} (o : OnBoard n p) where
+  pub drawable_on : Drawable n.board p.track n.net p.shape p.top
   drawable_on =
-      let k = o.board_range.rows_range in
-      let l = o.board_range.tracks_range in
+      let k = n.board_in_range.rows_range in
+      let l = n.board_in_range.tracks_range in
       let m = o.track_range in
-      record { board_range = o.board_range; net_range = o.net_range; track_range = omega arith; stretch_range = omega (arith, o.to_last); top_range = omega (arith, o.to_last) }
+      record { board_range = n.board_in_range; net_range = n.net_in_range; track_range = omega arith; stretch_range = omega (arith, o.to_last); top_range = omega (arith, o.to_last) }
 
-  pub line_fits : length (wire_line board track n p.shape p.top) ≤ 128
+  pub line_fits : length (wire_line n.board p.track n.net p.shape p.top) ≤ 128
   line_fits =
-      let x = line_text (wire (wire_of board track.0 (only_placement n p))) in
-      let h = wire_length (wire_of board track.0 (only_placement n p)) (wire_bounds board o.board_range track.0 (only_placement n p) o.track_range.1 o.net_range o.to_last) in
+      let x = line_text (wire (wire_of n.board p.track.0 (only_placement n.net p))) in
+      let h = wire_length (wire_of n.board p.track.0 (only_placement n.net p)) (wire_bounds n.board n.board_in_range p.track.0 (only_placement n.net p) o.track_range.1 n.net_in_range o.to_last) in
       omega (arith, length-append x (10 ∷ []))
 
 -- what a writer of the line leaves, up to its byte 10
-module _ (board : Board) (track : Track) (n : Net) (p : DrawnPlace) (before after : List ℕ) (k : ℕ) (w : Written (wire_line board track n p.shape p.top) before after k) where
-  pub line_used : k ≡ length (wire_text board track n p) + 1
+module _ (n : BoardNet) (p : Wired) (before after : List ℕ) (k : ℕ) (w : Written (wire_line n.board p.track n.net p.shape p.top) before after k) where
+  pub line_used : k ≡ length (wire_text n p) + 1
   unfolding wire_text
-  line_used = w.used ∙ length-append (wire_text board track n p) (10 ∷ [])
+  line_used = w.used ∙ length-append (wire_text n p) (10 ∷ [])
 
-  pub line_bytes : take (k - 1) after ≡ wire_text board track n p
+  pub line_bytes : take (k - 1) after ≡ wire_text n p
   unfolding wire_text
   line_bytes =
-      let x = wire_text board track n p in
+      let x = wire_text n p in
       let e : k - 1 ≡ length x = omega (arith, line_used) in
-      rw (e, w.bytes, append_assoc x (10 ∷ []) (drop (length (wire_line board track n p.shape p.top)) before)) (take-append_seam x ((10 ∷ []) ++ drop (length (wire_line board track n p.shape p.top)) before))
+      rw (e, w.bytes, append_assoc x (10 ∷ []) (drop (length (wire_line n.board p.track n.net p.shape p.top)) before)) (take-append_seam x ((10 ∷ []) ++ drop (length (wire_line n.board p.track n.net p.shape p.top)) before))
 
 -- the same bytes, as the comparison of slices tells
 pub same_is : (s t : List ℕ) → bytes_eq s t ≡ same s t
@@ -116,17 +117,24 @@ pub on_board_last : (board : Board) (p : Placement) → is_on_board board p ≡ 
 unfolding is_on_board is_to_last
 on_board_last board p e = leb-true (bottom p) board.rows (and_split (is_from_one p && is_over_upper p && is_under_lower p) (is_to_last board p) e).1
 
+-- the place is on the track
+pub only_track : (n : Net) (t : Track) (rows : Option ColumnRows) → (only_place n t rows).track ≡ t
+unfolding only_place
+only_track n t None = refl
+only_track n t (Some rows) = refl
+
 -- one placement on both sides of a test
-kept : (b : Bool) (n : Net) (p : DrawnPlace) → then_some b p ≡ place_of (cond b (Some (only_placement n p)) None)
+kept : (b : Bool) (n : Net) (p : Wired) → then_some b p ≡ place_of p.track (cond b (Some (only_placement n p)) None)
 unfolding place_of
 kept true n p = refl
 kept false n p = refl
 
 -- the rows of the wire column leave one placement: it is drawn, or none is
-pub answer : (board : Board) (track : Track) (n : Net) (s : List ℕ) (rows : Option ColumnRows) (p : DrawnPlace) (b : Bool) → RowsOf s (2 * track.0) rows → p ≡ only_place n rows →
-    b ≡ (is_on_board board (only_placement n p) && same s (wire_text board track n p)) → DrawnIn s board track.0 n (then_some b p)
+pub answer : (n : BoardNet) (t : Track) (s : List ℕ) (rows : Option ColumnRows) (p : Wired) (b : Bool) → RowsOf s (2 * t.0) rows → p ≡ only_place n.net t rows →
+    b ≡ (is_on_board n.board (only_placement n.net p) && same s (wire_text n p)) → DrawnIn s n t (then_some b p)
 unfolding drawn_of wire_column
-answer board track n s rows p b of_wire only tested w r e =
-    let one : placement_of track.0 n w.points ≡ only_placement n p =
-    sym (ap (only_placement n) only ∙ ap (λ (x : Option ColumnRows). only_placement n (only_place n x)) (of_wire w r) ∙ only_one track.0 n w.points) in
-    rw (one, same_drawing board track n p s w r e, tested) (kept (is_on_board board (only_placement n p) && same s (wire_text board track n p)) n p)
+answer n t s rows p b of_wire only tested w r e =
+    let on : p.track ≡ t = ap (λ (x : Wired). x.track) only ∙ only_track n.net t rows in
+    let one : placement_of t.0 n.net w.points ≡ only_placement n.net p =
+    sym (ap (only_placement n.net) only ∙ ap (λ (x : Option ColumnRows). only_placement n.net (only_place n.net t x)) (of_wire w r) ∙ only_one t n.net w.points) in
+    rw (one, ← on, same_drawing n p s w r e, tested) (kept (is_on_board n.board (only_placement n.net p) && same s (wire_text n p)) n.net p)

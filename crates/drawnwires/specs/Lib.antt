@@ -1,2 +1,2 @@
--- The placement that a wire line draws, as the code answers it.
+-- Where a net stands that a wire line draws, as the code answers it.
 pub mod DrawnPlaces

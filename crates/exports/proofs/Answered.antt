@@ -1,14 +1,13 @@
--- What the answer of read stands for: the number of a refusal, or an accepted job by value, whose plan is the text's. Assumes nothing.
+-- What the answer of read stands for: the number of a refusal, or an accepted job, whose plan is the text's. Assumes nothing.
 use Rattle.std.specs.Prelude.{Ok, Err, MatchResult, sum}
 use Prim.Native.Nat.{ℕ, ◌≤◌}
 use mathlib.Core.Path.{◌≡◌, refl, sym}
 use mathlib.Core.List.{List}
-use Rattle.board.specs.declared.StoredJob.{StoredJob}
-use Rattle.board.specs.Stored.{job_of}
+use Rattle.board.specs.Job.{Job}
 use Rattle.jobfile.specs.declared.Refusal.{Refusal}
 use Rattle.jobfile.specs.Read.{Read, accepted, refused, read_job}
 use Rattle.jobfile.specs.Answers.{number_of, answer_of}
-use Rattle.jobfile.proofs.Returned.{given_stored, given_read, given_refused}
+use Rattle.jobfile.proofs.Accepts.{read_accepted}
 use Rattle.planner.specs.JobPlans.{job_plan_of}
 use Rattle.planner.specs.declared.JobPlan.{JobPlan}
 use Rattle.exports.specs.Exported.{refusal_of, plan_sum}
@@ -25,23 +24,19 @@ pub refused_sum : (r : Read) (o : Refusal) → r ≡ refused o → 0 ≡ plan_su
 unfolding plan_sum
 refused_sum r o e = rw e
 
-module _ (text : List ℕ) (o : Refusal) (e : Err o ≡ answer_of (read_job text)) where
-  pub number_given : number_of o ≡ refusal_of (read_job text)
-  number_given = rw (sym e) at (answer_number (read_job text))
-
-  pub none_given : 0 ≡ plan_sum (read_job text)
-  none_given = refused_sum (read_job text) o (given_refused text o e)
+pub number_given : (text : List ℕ) (o : Refusal) → Err o ≡ answer_of (read_job text) → number_of o ≡ refusal_of (read_job text)
+number_given text o e = rw (sym e) at (answer_number (read_job text))
 
 -- an accepted text has number 0, and the sum of its plan
-module _ (text : List ℕ) (job : StoredJob) (e : Ok job ≡ answer_of (read_job text)) where
+module _ (text : List ℕ) (job : Job) (e : read_job text ≡ accepted job) where
   pub accepted_given : 0 ≡ refusal_of (read_job text)
   unfolding refusal_of
-  accepted_given = rw (given_read text job e)
+  accepted_given = rw e
 
-  module _ (plan : JobPlan) (p : plan ≡ job_plan_of (job_of job)) where
+  module _ (plan : JobPlan) (p : plan ≡ job_plan_of job) where
     pub sums_given : sum plan.sums ≤ 524288
-    sums_given = rw p (added_most (job_of job) (given_stored text job e).accepted)
+    sums_given = rw p (added_most job (read_accepted text job e))
 
     pub plan_given : sum plan.sums ≡ plan_sum (read_job text)
     unfolding plan_sum
-    plan_given = rw (p, given_read text job e) (added_plan (job_of job))
+    plan_given = rw (p, e) (added_plan job)

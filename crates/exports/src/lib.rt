@@ -131,7 +131,7 @@ pub extern "C" fn hankuribo_read(text: &[u8]) -> usize
 pub extern "C" fn hankuribo_plan(text: &[u8]) -> usize
     ensures answer { result ≡ plan_sum (read_job text.now) }
 {
-    match reader::read(text) {
+    match reader::accept(text) {
         Ok(job) => {
             let plan = planner::plan_job(&job);
             add_up(&plan.sums)

@@ -3,7 +3,7 @@ use Prim.Native.Nat.{ℕ}
 use mathlib.Core.Path.{◌≡◌, refl, subst}
 use mathlib.Core.List.{List, ◌++◌}
 use lib.ListN.{length, take, drop, replicate}
-use Rattle.files.specs.declared.FileText.{FileText}
+use Rattle.files.specs.declared.buffer.TextBuffer.{TextBuffer}
 use Rattle.std.specs.Prelude.{IfSome, Option, Some, Result, Ok, Err}
 use Rattle.std.specs.Io.{StartsWith}
 use Rattle.files.specs.Unopened.{EmptyUnopened}
@@ -20,16 +20,16 @@ nothing_read (Ok file) = tt
 nothing_read (Err e) = refl
 
 -- the text of a reader whose bytes are known is the first of them, as many as were read
-pub given_is : {F : Type 0} (E : Type 0) (remaining : F → Option (List ℕ)) (file : F) (xs : List ℕ) (t : FileText) → remaining file ≡ Some xs
+pub given_is : {F : Type 0} (E : Type 0) (remaining : F → Option (List ℕ)) (file : F) (xs : List ℕ) (t : TextBuffer 64001) → remaining file ≡ Some xs
     → FirstGiven {F = F} {E = E} remaining (Ok file) (text_of t) → take (length (text_of t)) xs ≡ text_of t
 given_is E remaining file xs t e h = subst (λ (known : Option (List ℕ)). IfSome known (λ ys. StartsWith ys (text_of t))) e h
 
--- the text is the first bytes of the buffer, as many as were read
-pub text_is : (t : FileText) → text_of t ≡ take t.used t.bytes
+-- the text is the first bytes of the buffer, as many as are used
+pub text_is : {n : ℕ} (t : TextBuffer n) → text_of t ≡ take t.used t.bytes
 unfolding text_of
 text_is t = refl
 
-module _ (t : FileText) (h : ReadText t) where
+module _ (t : TextBuffer 64001) (h : ReadText t) where
   -- as many bytes were read as the text has
   pub used_is : t.used ≡ length (text_of t)
   used_is = h.written.used

@@ -5,18 +5,11 @@
 ghost use Rattle.std.specs.Prelude.{◌≡◌, ◌≤◌, length, drop};
 ghost use Rattle.lines.specs.Tokens.{line_words};
 ghost use Rattle.jobfile.specs.Forms.{no_word, if_last, form_made, form_after, form_opened, read_form};
-ghost use Rattle.forms.specs.Arguments.{argument_at, only_closing, ArgumentsAre};
+ghost use Rattle.forms.specs.Arguments.{ArgumentsAre};
 
 use jobfile::Form;
 use keywords::Vocabulary;
 use lines::Token;
-
-// A number of a form, and the byte behind it.
-#[derive(Clone, Copy)]
-struct Argument {
-    value: usize,
-    next: usize,
-}
 
 // The numbers of a form, so many from the first on.
 #[derive(Clone, Copy)]
@@ -41,29 +34,6 @@ fn if_last(s: &[u8], at: usize, form: Form) -> Form
     if at_end(s, at) { form } else { Form::Other }
 }
 
-// The number at a place, where one stands there.
-fn read_argument(s: &[u8], at: usize) -> Option<Argument>
-    requires { at ≤ length s.now }
-    ensures { result ≡ argument_at s.now at }
-{
-    let Token::Word { from, to } = lines::read_token(s, at)? else {
-        return None;
-    };
-    let value = text::read_number(&s[from..to], 5)?;
-    Some(Argument { value, next: to })
-}
-
-// Whether a closing bracket is the last token.
-fn is_closed(s: &[u8], at: usize) -> bool
-    requires { at ≤ length s.now }
-    ensures { result ≡ only_closing (line_words (drop at s.now)) }
-{
-    match lines::read_token(s, at) {
-        Some(Token::Shut(next)) => at_end(s, next),
-        _ => false,
-    }
-}
-
 // The numbers from a place on, six at most, where a closing bracket behind them ends the line.
 fn read_arguments(s: &[u8], at: usize) -> Option<Arguments>
     requires { at ≤ length s.now }
@@ -72,15 +42,17 @@ fn read_arguments(s: &[u8], at: usize) -> Option<Arguments>
     let mut numbers = [0usize; 6];
     let mut count = 0;
     let mut p = at;
-    for number in &mut numbers {
-        let Some(Argument { value, next }) = read_argument(s, p) else {
-            break;
-        };
-        *number = value;
-        count += 1;
-        p = next;
+    loop {
+        match lines::read_token(s, p)? {
+            Token::Shut(next) => return at_end(s, next).then_some(Arguments { count, numbers }),
+            Token::Word { from, to } if count < 6 => {
+                numbers[count] = text::read_number(&s[from..to], 5)?;
+                count += 1;
+                p = to;
+            }
+            _ => return None,
+        }
     }
-    is_closed(s, p).then_some(Arguments { count, numbers })
 }
 
 // The form that keyword i makes of numbers. A net may have its weight behind the others.

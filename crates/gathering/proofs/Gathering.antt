@@ -4,7 +4,7 @@ use mathlib.Core.Path.{◌≡◌, refl, sym, ap, ◌∙◌}
 use mathlib.Core.Bool.{Bool, true}
 use mathlib.Core.List.{List, [], ◌∷◌, ◌++◌}
 use native.Mathlib.Omega.{arith}
-use lib.ListN.{length, get_or, set, take}
+use lib.ListN.{length, get_or, take}
 use lib.Seq.{length-take-le}
 use Rattle.std.specs.Prelude.{Option, None, Some}
 use Rattle.std.proofs.lemmas.List.{take_all}
@@ -23,11 +23,12 @@ use Rattle.board.specs.Tests.{is_eligible}
 use Rattle.blockmap.specs.declared.BlockMap.{BlockMap}
 use Rattle.blockmap.specs.Clear.{flag_tops}
 use Rattle.blockmap.proofs.ClearTops.{flags_length}
-use Rattle.candidates.specs.declared.Candidates.{Candidates}
+use Rattle.candidates.specs.SlotArrays.{Candidates, with_value}
 use Rattle.candidates.specs.declared.NetTops.{NetTops}
-use Rattle.candidates.specs.declared.Wired.{Wired}
+use Rattle.board.specs.declared.Wired.{Wired}
+use Rattle.candidates.specs.declared.Candidate.{Candidate}
 use Rattle.candidates.specs.Placed.{eligible_at, preceding_of, placed_numbers}
-use Rattle.candidates.specs.Gathered.{Eligible, eligible_from, eligible_nets, tops_of, candidates_of, BlocksOf, leave_free, on_part, flag_slot, flag_slots, GatheredFrom}
+use Rattle.candidates.specs.Gathered.{Eligible, eligible_from, eligible_nets, tops_of, candidates_over, BlocksOf, leave_free, on_part, flag_slot, flag_slots, GatheredFrom}
 use Rattle.candidates.proofs.NetBefore.{accepted_at, preceding_at}
 use Rattle.candidates.proofs.Eligible.{eligible_ready, placed_numbers_lem, same_eligible, eligible_taken, eligible_passed, eligible_length}
 use Rattle.candidates.proofs.FlagParts.{part_length}
@@ -54,20 +55,20 @@ abbrev pub first_eligible : Job → List (Option Wired) → ℕ → List Eligibl
 first_eligible job stands i = eligible_from job (placed_numbers job stands) 0 (take i job.nets)
 
 -- after the first i nets; the map has the blocks of whatever track it fits
-pub record Passed (job : Job) (stands : List (Option Wired)) (map : Option BlockMap) (before : List ℕ) (found : Candidates) (flags : List ℕ) (i : ℕ) : Type 0 where
-  pub candidates : found ≡ candidates_of job.board (first_eligible job stands i)
+pub record Passed (job : Job) (stands : List (Option Wired)) (map : Option BlockMap) (old : List Candidate) (before : List ℕ) (found : Candidates) (flags : List ℕ) (i : ℕ) : Type 0 where
+  pub candidates : found ≡ candidates_over old job.board (first_eligible job stands i)
   pub size : length flags ≡ length before
   pub bytes : (t : ℕ) → BlocksOf job t map → flags ≡ flag_slots job t 0 (first_eligible job stands i) before
 
-pub passed_none : (job : Job) (stands : List (Option Wired)) (map : Option BlockMap) (before : List ℕ) (found : Candidates) → found ≡ candidates_of job.board []
-    → Passed job stands map before found before 0
-unfolding eligible_from flag_slots
-passed_none job stands map before found e = record { candidates = e; size = refl; bytes = λ t of. refl }
+pub passed_none : (job : Job) (stands : List (Option Wired)) (map : Option BlockMap) (old : List Candidate) (before : List ℕ)
+    → Passed job stands map old before (record { count = 0; slots = old }) before 0
+unfolding eligible_from flag_slots candidates_over
+passed_none job stands map old before = record { candidates = refl; size = refl; bytes = λ t of. refl }
 
-module _ (job : Job) (accepted : AcceptedJob job) (stands : List (Option Wired)) (map : Option BlockMap) (before : List ℕ) (found : Candidates) (flags : List ℕ) (i : ℕ) where
+module _ (job : Job) (accepted : AcceptedJob job) (stands : List (Option Wired)) (map : Option BlockMap) (old : List Candidate) (before : List ℕ) (found : Candidates) (flags : List ℕ) (i : ℕ) where
   -- no more candidates than nets passed, so that there is a slot
-  pub passed_count : i ≤ length job.nets → Passed job stands map before found flags i → found.count ≤ i
-  unfolding candidates_of
+  pub passed_count : i ≤ length job.nets → Passed job stands map old before found flags i → found.count ≤ i
+  unfolding candidates_over
   passed_count h p =
       let e : found.count ≡ length (first_eligible job stands i) = ap (λ c. c.count) p.candidates in
       omega (arith, eligible_length job (placed_numbers job stands) (take i job.nets) 0, length-take-le i job.nets (omega arith))
@@ -83,7 +84,7 @@ module _ (job : Job) (accepted : AcceptedJob job) (stands : List (Option Wired))
         ∙ ap (λ b. eligible_at b stands i) (sym (preceding_at job accepted i h))
 
     -- a net that is not eligible
-    pub passed_skip : get_or table i None ≡ None → Passed job stands map before found flags i → Passed job stands map before found flags (i + 1)
+    pub passed_skip : get_or table i None ≡ None → Passed job stands map old before found flags i → Passed job stands map old before found flags (i + 1)
     unfolding tops_if
     passed_skip e p =
         by_test (eligible_at (get_or (preceding_of job) i None) stands i)
@@ -102,11 +103,11 @@ module _ (job : Job) (accepted : AcceptedJob job) (stands : List (Option Wired))
       pub found_range : (1 ≤ tops.first.0) × (tops.first.0 ≤ tops.last.0) × (1 ≤ tops.need) × (tops.last.0 + tops.need ≤ 1025)
       found_range = rw is.1 at (tops_range job.board net accepted.board_range (accepted_at job accepted i h))
 
-      pub passed_take : length job.nets * 1024 ≤ length before → Passed job stands map before found flags i → (after : List ℕ)
+      pub passed_take : length job.nets * 1024 ≤ length before → Passed job stands map old before found flags i → length old ≡ 512 → (after : List ℕ)
           → after ≡ on_part found.count (flag_tops (λ top. leave_free map top tops.need) tops.first.0 (tops.last.0 + 1 - tops.first.0)) flags
-          → Passed job stands map before (record { count = found.count + 1; slots = set found.slots found.count (record { net = i; tops = tops }) }) after (i + 1)
-      unfolding candidates_of
-      passed_take room p after a =
+          → Passed job stands map old before (with_value found (record { net = i; tops = tops })) after (i + 1)
+      unfolding candidates_over
+      passed_take room p size after a =
           let x : Eligible = record { index = i; net = net } in
           let xs = first_eligible job stands i in
           let few = accepted.nets_count in
@@ -121,7 +122,7 @@ module _ (job : Job) (accepted : AcceptedJob job) (stands : List (Option Wired))
           let count = tops.last.0 + 1 - tops.first.0 in
           let test : ℕ → Bool = λ top. leave_free map top tops.need in
           record {
-            candidates = rw (more, ← is.1) (slots_put job.board found xs x p.candidates (omega arith));
+            candidates = rw (more, ← is.1) (slots_put old job.board found xs x p.candidates (omega arith));
             size = ap length a ∙ part_length found.count (flag_tops test first count) flags (flags_length test first count) part ∙ p.size;
             bytes = λ t fits.
                 let z : found.count ≡ 0 + length xs = omega arith in
@@ -134,12 +135,12 @@ module _ (job : Job) (accepted : AcceptedJob job) (stands : List (Option Wired))
 
   -- after all nets
   pub passed_all : (t : ℕ) → BlocksOf job t map → length job.nets * 1024 ≤ length before → length job.nets ≤ i
-      → Passed job stands map before found flags i → GatheredFrom job stands t before found flags
+      → Passed job stands map old before found flags i → GatheredFrom job stands t old before found flags
   unfolding eligible_nets
   passed_all t fits room l p =
       let e = take_all i job.nets l in
       let all = placed_numbers job stands in
-      let c : found ≡ candidates_of job.board (eligible_nets job all) = rw e at p.candidates in
+      let c : found ≡ candidates_over old job.board (eligible_nets job all) = rw e at p.candidates in
       let bytes : flags ≡ flag_slots job t 0 (eligible_nets job all) before = rw e at (p.bytes t fits) in
       record {
         candidates = c;
@@ -147,7 +148,7 @@ module _ (job : Job) (accepted : AcceptedJob job) (stands : List (Option Wired))
         gathered = λ earlier is.
             let same : eligible_nets job all ≡ eligible_nets job earlier =
             same_eligible job accepted stands all earlier (placed_numbers_lem job stands accepted) is in
-            gathered job earlier t found before flags accepted room
-            (c ∙ ap (λ xs. candidates_of job.board xs) same)
+            gathered job earlier t old found before flags accepted room
+            (c ∙ ap (λ xs. candidates_over old job.board xs) same)
             (bytes ∙ ap (λ xs. flag_slots job t 0 xs before) same);
       }

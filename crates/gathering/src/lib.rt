@@ -1,16 +1,14 @@
 // Gathers the candidates for a track: its eligible nets, with what the choice needs of each.
 #![tactic(auto)]
 
-ghost use Rattle.std.specs.Prelude.{◌*◌, ◌≡◌, [], ◌+◌, ◌-◌, ◌≤◌, length};
-ghost use Rattle.board.specs.declared.Board.{Board};
-ghost use Rattle.board.specs.Stored.{job_of, AcceptedStored};
+ghost use Rattle.std.specs.Prelude.{◌*◌, ◌≡◌, ◌+◌, ◌-◌, ◌≤◌, length};
 ghost use Rattle.blockmap.specs.Clear.{flag_tops};
 ghost use Rattle.candidates.specs.Placed.{preceding_of};
-ghost use Rattle.candidates.specs.Gathered.{candidates_of, leave_free, on_part, GatheredFrom};
+ghost use Rattle.candidates.specs.Gathered.{leave_free, on_part, GatheredFrom};
 
 use blockmap::BlockMap;
-use board::{Row, StoredJob, Track};
-use candidates::{Candidate, Candidates, NetTops, Wired, block_map, has_blocks};
+use board::{Job, Track, Wired};
+use candidates::{Candidate, Candidates, NetTops, block_map, has_blocks};
 use toptable::tops_table;
 
 // Flags the tops of candidate i: part i of the flags is lent to the search for tops. Where the track has no block, no row is scanned.
@@ -33,55 +31,39 @@ fn flag_part(map: Option<BlockMap>, tops: NetTops, i: usize, flags: &mut [u8])
     }
 }
 
-// No candidate.
-#[tactic(auto, unfolding(candidates::specs::Gathered::candidates_of, candidates::specs::Placed::padded))]
-fn no_candidates() -> Candidates
-    ensures { (board : Board) → result ≡ candidates_of board [] }
-{
-    let tops = NetTops {
-        need: 0,
-        weight: 0,
-        first: Row(0),
-        last: Row(0),
-    };
-    Candidates {
-        count: 0,
-        slots: [Candidate { net: 0, tops }; 512],
-    }
-}
-
-// The candidates for a track, where stands[k] tells where the wire of net k stands. Candidate i has part i of the flags, 1,024 bytes long:
-// byte top − 1 of it is 1 if the candidate is clear of blocks with its top there, otherwise 0.
+// Gathers the candidates for a track over those of another, where stands[k] tells where the wire of net k stands. Candidate i has part i of the
+// flags, 1,024 bytes long: byte top − 1 of it is 1 if the candidate is clear of blocks with its top there, otherwise 0.
 pub fn gather(
-    job: &StoredJob,
+    job: &Job,
     before: &[Option<usize>; 512],
     stands: &[Option<Wired>; 512],
     track: Track,
+    found: &mut Candidates,
     flags: &mut [u8],
-) -> Candidates
-    requires accepted_stored { AcceptedStored job.now }
-    requires before_value { before.now ≡ preceding_of (job_of job.now) }
-    requires in_bounds { job.now.nnets * 1024 ≤ length flags.old }
-    ensures { GatheredFrom (job_of job.now) stands.now track.0 flags.old result flags.new }
+)
+    requires before_value { before.now ≡ preceding_of job.now }
+    requires in_bounds { length job.now.nets * 1024 ≤ length flags.old }
+    ensures { GatheredFrom job.now stands.now track.0 found.old.slots flags.old found.new flags.new }
 {
-    let nets = &job.nets[..job.nnets];
+    let nets = job.nets();
     let map = if has_blocks(job, track) {
         Some(block_map(job, track))
     } else {
         None
     };
-    let table = tops_table(job, before, stands);
-    let mut found = no_candidates();
+    let mut table = [None; 512];
+    tops_table(job, before, stands, &mut table);
+    found.count = 0;
+    // Lent as a slice only to tell the proof that there are 512 slots.
+    let _slots: &[Candidate] = &found.slots;
     for (i, slot) in table[..nets.len()].iter().enumerate() {
         if let Some(tops) = slot {
             let at = found.count;
-            flag_part(map, *tops, at, flags);
-            found.slots[at] = Candidate {
+            found.push(Candidate {
                 net: i,
                 tops: *tops,
-            };
-            found.count = at + 1;
+            });
+            flag_part(map, *tops, at, flags);
         }
     }
-    found
 }

@@ -21,8 +21,8 @@ pub fn house(job: &[u8], out: &mut [u8]) -> Result<usize, TextRefusal>
     ensures one_text { OfWritten OneText (read_job job.now) result out.new }
     ensures again { OfWritten (λ j text. FixedAgain text) (read_job job.now) result out.new }
 {
-    let stored = reader::read(job)?;
+    let accepted = reader::accept(job)?;
     let mut fixed = [0u8; 28564];
-    let needed = housewriter::write_house(&stored, &mut fixed);
+    let needed = housewriter::write_house(&accepted, &mut fixed);
     answers::put_answer(&fixed[..needed], out)
 }

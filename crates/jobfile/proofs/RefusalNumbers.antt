@@ -30,24 +30,19 @@ refusal_of (TooFewRows k) = refl
 pub same_refusal : (o p : Refusal) → number_of o ≡ number_of p → line_of o ≡ line_of p → o ≡ p
 same_refusal o p i k = sym (refusal_of o) ∙ (rw (i, k) (refusal_of p))
 
+number_range : (o : Refusal) → (0 < number_of o) × (number_of o < 10)
+number_range TooLong = (omega arith, omega arith)
+number_range (NotOfForm k) = (omega arith, omega arith)
+number_range (OutOfRange k) = (omega arith, omega arith)
+number_range (TooMany k) = (omega arith, omega arith)
+number_range (NumberNotAbove k) = (omega arith, omega arith)
+number_range (PinUsed k) = (omega arith, omega arith)
+number_range (SameRow k) = (omega arith, omega arith)
+number_range (NoLength k) = (omega arith, omega arith)
+number_range (TooFewRows k) = (omega arith, omega arith)
+
 pub number_below : (o : Refusal) → number_of o < 10
-number_below TooLong = omega arith
-number_below (NotOfForm k) = omega arith
-number_below (OutOfRange k) = omega arith
-number_below (TooMany k) = omega arith
-number_below (NumberNotAbove k) = omega arith
-number_below (PinUsed k) = omega arith
-number_below (SameRow k) = omega arith
-number_below (NoLength k) = omega arith
-number_below (TooFewRows k) = omega arith
+number_below o = (number_range o).1
 
 pub number_above : (o : Refusal) → 0 < number_of o
-number_above TooLong = omega arith
-number_above (NotOfForm k) = omega arith
-number_above (OutOfRange k) = omega arith
-number_above (TooMany k) = omega arith
-number_above (NumberNotAbove k) = omega arith
-number_above (PinUsed k) = omega arith
-number_above (SameRow k) = omega arith
-number_above (NoLength k) = omega arith
-number_above (TooFewRows k) = omega arith
+number_above o = (number_range o).0

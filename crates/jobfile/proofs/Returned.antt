@@ -2,14 +2,14 @@
 -- Assumes nothing.
 use Rattle.std.specs.Prelude.{Result, Ok, Err}
 use Prim.Native.Nat.{ℕ}
-use mathlib.Core.Path.{◌≡◌, refl, sym, ap, ◌∙◌}
+use mathlib.Core.Path.{◌≡◌, refl, sym, ap}
 use mathlib.Core.List.{List}
 use Rattle.board.specs.declared.StoredJob.{StoredJob}
 use Rattle.board.specs.Stored.{job_of, stored_of, AcceptedStored}
 use Rattle.jobfile.specs.declared.Refusal.{Refusal}
 use Rattle.jobfile.specs.Read.{Read, accepted, refused, read_job}
 use Rattle.jobfile.specs.Answers.{answer_of, answer}
-use Rattle.jobfile.specs.RightAnswer.{RightJob, RightAnswer}
+use Rattle.jobfile.specs.RightAnswer.{RightAnswer}
 use Rattle.jobfile.proofs.Accepts.{read_accepted}
 use Rattle.board.proofs.StoredJobs.{job_back, stored_accepted}
 use Rattle.jobfile.proofs.Refusals.{read_refused, read_faultless, read_held}

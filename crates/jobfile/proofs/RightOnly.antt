@@ -3,17 +3,16 @@
 -- and is said for those who use the job. Assumes nothing.
 use Rattle.std.specs.Prelude.{Result, Ok, Err}
 use Prim.Native.Nat.{ℕ}
-use mathlib.Core.Path.{◌≡◌, refl, sym, ap, ◌∙◌}
+use mathlib.Core.Path.{◌≡◌, refl, sym, ◌∙◌}
 use mathlib.Core.List.{List}
 use Rattle.board.specs.Accepted.{AcceptedJob}
 use Rattle.board.specs.declared.StoredJob.{StoredJob}
 use Rattle.board.specs.Stored.{job_of}
 use Rattle.board.proofs.StoredJobs.{job_back}
 use Rattle.jobfile.specs.declared.Refusal.{Refusal}
-use Rattle.jobfile.specs.Read.{accepted, refused, read_job}
 use Rattle.jobfile.specs.Answers.{answer_of, answer}
 use Rattle.jobfile.specs.Faults.{forms_of, job_in}
-use Rattle.jobfile.specs.RightAnswer.{RightJob, RightAnswer}
+use Rattle.jobfile.specs.RightAnswer.{RightAnswer}
 use Rattle.jobfile.proofs.Refusals.{first_refused, faultless_accepted}
 
 -- both answers are jobs, and stand for the same one; or both are the same refusal

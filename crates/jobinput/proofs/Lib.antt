@@ -1,2 +1,3 @@
--- Laws of the job on standard input.
+-- Laws of the jobs on standard input.
+pub mod Each
 pub mod TakenOut

@@ -1,2 +1,3 @@
--- What is promised of the job on standard input.
+-- What is promised of the jobs on standard input.
+pub mod EachPrinted
 pub mod InputPrinted

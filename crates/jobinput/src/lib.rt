@@ -1,9 +1,9 @@
-// The programs `route` and `house`: a job on standard input.
+// The programs that write the texts of jobs: of a job on standard input, or of several.
 #![tactic(auto)]
 
-ghost use Rattle.std.specs.Prelude.{IfSome};
-ghost use Rattle.std.specs.Counts.{IsPrefixLen};
+ghost use Rattle.std.specs.Prelude.{IfSome, OnOk};
 ghost use Rattle.std.specs.Io.{StartsWith};
+ghost use Rattle.std.specs.Io.KnownBytes.{Appends};
 ghost use Rattle.files.specs.FileTexts.{text_of, ReadText};
 ghost use Rattle.planning.specs.Plan.{plan_of};
 ghost use Rattle.sound.specs.Sound.{Sound};
@@ -12,16 +12,31 @@ ghost use Rattle.routing.specs.Promises.{ShortestText, UnbeatenText};
 ghost use Rattle.house.specs.HouseText.{house_text};
 ghost use Rattle.house.specs.Promises.{IsFixed, ReadsBack, OneText, FixedAgain};
 ghost use Rattle.jobinput.specs.InputPrinted.{InputPrinted, OfInput};
+ghost use Rattle.jobinput.specs.EachPrinted.{each_text};
+ghost use Rattle.texts.specs.Ends.{texts_of};
 
 use files::FileText;
-use printing::Printed;
-use std::io::Read;
+use printing::{House, Operation, Printed, Route};
+use std::io::{self, Read, Write};
+use texts::Texts;
 
 // The job as it was read, and what is printed for it: the job's text comes back, so that a contract can say whose text or refusal that is.
 #[derive(Clone, Copy)]
 pub struct PrintedInput {
     pub job: FileText,
     pub printed: Printed,
+}
+
+// Writes the text of the job that a reader gives, as standard input does.
+pub fn printed_input<T: Operation, R: Read + Drop>(input: R) -> PrintedInput
+    ensures read { ReadText result.job }
+    ensures given { IfSome (R.remaining input) (λ xs. StartsWith xs (text_of result.job)) }
+    ensures printed { InputPrinted T.text result }
+    ensures promised { OfInput (λ j text. T.Promised j text) result }
+{
+    let job = files::text_from(Ok(input));
+    let printed = printing::print_text::<T>(job.text());
+    PrintedInput { job, printed }
 }
 
 // Routes the job that a reader gives, as standard input does.
@@ -32,13 +47,8 @@ pub fn routed_input<R: Read + Drop>(input: R) -> PrintedInput
     ensures shortest { OfInput (λ j text. ShortestText j (plan_of j) text) result }
     ensures sound { OfInput (λ j text. Sound j text) result }
     ensures unbeaten { OfInput (λ j text. UnbeatenText j text) result }
-    ensures counts { IsPrefixLen result.printed.used result.printed.bytes }
 {
-    let job = files::text_from(Ok(input));
-    let job_bytes = job.bytes;
-    let job_used = job.used;
-    let printed = printing::print_route(&job_bytes[..job_used]);
-    PrintedInput { job, printed }
+    printed_input::<Route, R>(input)
 }
 
 // The fixed text of the job that a reader gives, as standard input does.
@@ -50,31 +60,34 @@ pub fn fixed_input<R: Read + Drop>(input: R) -> PrintedInput
     ensures read_back { OfInput ReadsBack result }
     ensures one_text { OfInput OneText result }
     ensures again { OfInput (λ j text. FixedAgain text) result }
-    ensures counts { IsPrefixLen result.printed.used result.printed.bytes }
 {
-    let job = files::text_from(Ok(input));
-    let job_bytes = job.bytes;
-    let used = job.used;
-    let printed = printing::print_house(&job_bytes[..used]);
-    PrintedInput { job, printed }
+    printed_input::<House, R>(input)
 }
 
-// Prints what is to be printed. A failure to print is passed over.
-fn print(rt: &impl Print, printed: Printed)
-    requires { IsPrefixLen printed.used printed.bytes }
-{
-    let bytes = printed.bytes;
-    let _ = rt.write_all(&bytes[..printed.used]);
-}
-
-// Reads a job on standard input, and prints its layout, or its refusal as `(refused number line)`.
+// Reads a job on standard input, and prints its layout, or its refusal as `(refused number line)`. A failure to print is passed over.
 pub fn route_input(rt: &(impl Input + Print)) {
-    let routed = routed_input(rt.reader());
-    print(rt, routed.printed);
+    let _ = rt.write_all(routed_input(rt.reader()).printed.text());
 }
 
-// Reads a job on standard input, and prints its fixed text, or its refusal as `(refused number line)`.
+// Reads a job on standard input, and prints its fixed text, or its refusal as `(refused number line)`. A failure to print is passed over.
 pub fn house_input(rt: &(impl Input + Print)) {
-    let fixed = fixed_input(rt.reader());
-    print(rt, fixed.printed);
+    let _ = rt.write_all(fixed_input(rt.reader()).printed.text());
+}
+
+// Writes, for each job of an input, each ended by byte 255, its text or its refusal, whether or not one before could be written. It answers
+// the first failure.
+pub fn write_each<T: Operation, W: Write>(out: &mut W, input: &[u8]) -> io::Result<()>
+    ensures { OnOk result (Appends (W.contents out.old) (W.contents out.new) (each_text T.text (texts_of input.now))) }
+{
+    let mut done = Ok(());
+    for job in Texts::new(input) {
+        done = done.and(out.write_all(printing::print_text::<T>(job).text()));
+    }
+    done
+}
+
+// Reads jobs on standard input, each ended by byte 255, and prints for each its text or its refusal. A failure to print is passed over.
+pub fn print_each<T: Operation>(rt: &(impl Input + Print)) {
+    let input: texts::Input = files::filled_from(&mut rt.reader());
+    let _ = write_each::<T, _>(&mut io::writer(rt), input.text());
 }

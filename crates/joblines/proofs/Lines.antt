@@ -11,7 +11,7 @@ use Rattle.text.specs.Digits.{digits}
 use Rattle.text.specs.Written.{WrittenAt}
 use Rattle.text.proofs.Writing.{none_at}
 use Rattle.keywords.specs.Keywords.{net_word, word_of}
-use Rattle.linewriter.specs.LineText.{head_text}
+use Rattle.linewriter.specs.LineText.{head_text, number_text}
 use Rattle.keywords.specs.declared.Vocabulary.TheVariants.{Job}
 use Rattle.board.specs.declared.Board.{Board}
 use Rattle.board.specs.declared.Net.{Net}
@@ -44,8 +44,8 @@ none_parts : (rest : List ℕ) → spaced_then [] rest ≡ rest
 unfolding spaced_then
 none_parts rest = refl
 
-pub size_parts : (i n : ℕ) → ended (inner_line (word_of Job i) (n ∷ [])) ≡ head_text Job i n ++ (41 ∷ 10 ∷ [])
-size_parts i n = line_parts i n [] ∙ ap (λ l. head_text Job i n ++ l) (none_parts (41 ∷ 10 ∷ []))
+pub size_is : (i n : ℕ) → ended (inner_line (word_of Job i) (n ∷ [])) ≡ number_text Job i n
+size_is i n = line_parts i n [] ∙ ap (λ l. head_text Job i n ++ l) (none_parts (41 ∷ 10 ∷ []))
 
 optional_parts : (w : Option ℕ) (rest : List ℕ) → spaced_then (optional_number w) rest ≡ optional_text w ++ rest
 unfolding spaced_then optional_text

@@ -4,13 +4,12 @@
 
 ghost use Rattle.std.specs.Prelude.{[], ◌∷◌, ◌+◌, ◌≤◌, ◌<◌, length, ◌≡◌};
 ghost use Rattle.text.specs.Written.{Written, WrittenAt};
-ghost use Rattle.board.specs.Accepted.{BoardInRange, NetInRange};
 ghost use Rattle.keywords.specs.Keywords.{word_of};
 ghost use Rattle.keywords.specs.declared.Vocabulary.TheVariants.{Job};
 ghost use Rattle.house.specs.HouseText.{inner_line, weight_written, net_line, block_line};
 ghost use Rattle.joblines.specs.Lines.{ended, two_text, optional_text};
 
-use board::{Block, Board, Net};
+use board::{Block, BoardNet};
 use keywords::Vocabulary;
 
 // Writes two numbers, each behind a space.
@@ -34,12 +33,11 @@ fn put_optional(out: &mut [u8], at: usize, number: Option<usize>) -> usize
 }
 
 // The weight as the line of a net gives it: left out where it is the needed rows.
-fn weight_written(board: Board, net: Net) -> Option<usize>
-    requires board_in_range { BoardInRange board }
-    requires net_in_range { NetInRange board net }
-    ensures { result ≡ weight_written board net }
+fn weight_written(line: BoardNet) -> Option<usize>
+    ensures { result ≡ weight_written line.board line.net }
 {
-    (net.weight != board::needed(board, net)).then_some(net.weight)
+    let weight = line.net.weight;
+    (weight != line.needed()).then_some(weight)
 }
 
 // Writes a line with one number behind word i of the table.
@@ -48,21 +46,19 @@ pub fn size_line(out: &mut [u8], i: usize, number: usize) -> usize
     requires number_in_bounds { length (ended (inner_line (word_of Job i) (number ∷ []))) ≤ length out.old }
     ensures { Written (ended (inner_line (word_of Job i) (number ∷ []))) out.old out.new result }
 {
-    let a = linewriter::put_head(out, 0, Vocabulary::Job, i, number);
-    text::put_bytes_at(out, a, b")\n")
+    linewriter::number_line(out, Vocabulary::Job, i, number)
 }
 
 // Writes the line of a net.
-pub fn net_line(out: &mut [u8], board: Board, net: Net) -> usize
-    requires board_in_range { BoardInRange board }
-    requires net_in_range { NetInRange board net }
-    requires net_in_bounds { length (ended (net_line board net)) ≤ length out.old }
-    ensures { Written (ended (net_line board net)) out.old out.new result }
+pub fn net_line(out: &mut [u8], line: BoardNet) -> usize
+    requires { length (ended (net_line line.board line.net)) ≤ length out.old }
+    ensures { Written (ended (net_line line.board line.net)) out.old out.new result }
 {
+    let net = line.net;
     let a = linewriter::put_head(out, 0, Vocabulary::Job, 3, net.number);
     let b = put_two(out, a, net.left.0, net.right.0);
     let c = put_two(out, b, net.min, net.max);
-    let d = put_optional(out, c, weight_written(board, net));
+    let d = put_optional(out, c, weight_written(line));
     text::put_bytes_at(out, d, b")\n")
 }
 

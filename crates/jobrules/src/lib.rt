@@ -5,13 +5,13 @@
 ghost use Rattle.std.specs.Prelude.{◌≡◌, List, [], ◌∷◌, ◌++◌, length};
 ghost use Rattle.lists.specs.Lists.{all_of};
 ghost use Rattle.board.specs.Job.{Job};
-ghost use Rattle.board.specs.Accepted.{BoardInRange, NetInRange};
+ghost use Rattle.board.specs.Accepted.{BoardInRange};
 ghost use Rattle.board.specs.Stored.{stored_of};
 ghost use Rattle.jobfile.specs.Read.{State, within, weight_in_range, net_in_range, with_weight, block_in_range, pins_free, board_of, empty_job, test_net, add_block};
 ghost use Rattle.jobrules.specs.Rules.{outcome_of, RowsInRange, PinsOf, NetsAbove};
 
 use blockmap::BlockMap;
-use board::{Block, Board, Net, Row, StoredJob, Track};
+use board::{Block, Board, BoardNet, Net, StoredJob};
 use jobfile::Refusal;
 
 // The rows of the pins that nets use on either side, one bit a row.
@@ -22,28 +22,16 @@ pub struct UsedPins {
 }
 
 // A job without nets and blocks.
+#[tactic(auto, unfolding(board::specs::Stored::stored_of))]
 pub fn empty_job(rows: usize, tracks: usize) -> StoredJob
     ensures { result ≡ stored_of (empty_job (board_of rows tracks)) }
 {
-    let no_net = Net {
-        number: 0,
-        left: Row(0),
-        right: Row(0),
-        min: 0,
-        max: 0,
-        weight: 0,
-    };
-    let no_block = Block {
-        track: Track(0),
-        first: Row(0),
-        last: Row(0),
-    };
     StoredJob {
         board: Board { rows, tracks },
         nnets: 0,
         nblocks: 0,
-        nets: [no_net; 512],
-        blocks: [no_block; 256],
+        nets: [Net::default(); 512],
+        blocks: [Block::default(); 256],
     }
 }
 
@@ -88,17 +76,14 @@ fn is_block_in_range(size: Board, block: Block) -> bool
 }
 
 // The net with the weight that its line gives: the one that is written, or its needed rows.
-pub fn with_weight(size: Board, net: Net, weight: Option<usize>) -> Net
-    requires board_in_range { BoardInRange size }
-    requires net_in_range { NetInRange size net }
-    ensures { result ≡ with_weight size net weight }
+#[tactic(auto, unfolding(jobfile::specs::Read::weight_given))]
+pub fn with_weight(given: BoardNet, weight: Option<usize>) -> Net
+    ensures { result ≡ with_weight given.board given.net weight }
 {
-    match weight {
-        None => Net {
-            weight: board::needed(size, net),
-            ..net
-        },
-        Some(w) => Net { weight: w, ..net },
+    let weight = weight.unwrap_or_else(|| given.needed());
+    Net {
+        weight,
+        ..given.net
     }
 }
 
@@ -158,11 +143,12 @@ pub fn net_outcome(
     if net.left.0 == net.right.0 {
         return Err(Refusal::SameRow(line));
     }
-    let shape = board::shortest(size, net);
-    if net.max < board::length_of(size, net, shape) {
+    let given = BoardNet { board: size, net };
+    let shape = given.shortest();
+    if net.max < given.length_of(shape) {
         return Err(Refusal::NoLength(line));
     }
-    if size.rows < board::needed(size, net) {
+    if size.rows < given.needed() {
         return Err(Refusal::TooFewRows(line));
     }
     Ok(())

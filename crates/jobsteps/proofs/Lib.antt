@@ -1,5 +1,4 @@
 -- The laws of the step over a line.
 pub mod Slots
-pub mod Lines
-pub mod States
-pub mod Taken
+pub mod Taking
+pub mod Adding

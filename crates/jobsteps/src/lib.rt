@@ -1,95 +1,45 @@
-// The step over a line of a job: what the lines above come to, what a line below them is refused for, and what it adds.
+// The step over a line of a job: what a line is refused for below those above it, and what it adds to the job.
 #![tactic(auto)]
 
-ghost use Rattle.std.specs.Prelude.{◌≡◌, ◌<◌};
-ghost use Rattle.board.specs.declared.StoredJob.{StoredJob};
-ghost use Rattle.board.specs.Accepted.{BoardInRange};
-ghost use Rattle.jobfile.specs.Read.{State, within, net_of, block_of, unless, go, step};
-ghost use Rattle.jobrules.specs.Rules.{outcome_of, RowsInRange};
-ghost use Rattle.jobsteps.specs.LinesAbove.{form_stands, entry_of, head_after, state_of, NothingAbove, AboveOf, NetAfter};
+ghost use Rattle.std.specs.Prelude.{◌≡◌, []};
+ghost use Rattle.board.specs.Stored.{job_of};
+ghost use Rattle.jobfile.specs.Read.{State, within, net_of, block_of, with_weight, unless, go, add_net, add_block, step};
+ghost use Rattle.jobrules.specs.Rules.{outcome_of};
+ghost use Rattle.jobsteps.specs.LinesAbove.{NetsAre, state_of, Filled, Held, Taken};
 
-use board::{Block, Board, Net, Row, Track};
+use board::{Block, Board, BoardNet, Net, Row, StoredJob, Track};
 use jobfile::{Form, Refusal};
 use jobrules::UsedPins;
 
 // How far the lines above go.
-#[derive(Clone, Copy, PartialEq, Eq)]
+#[derive(Clone, Copy)]
 pub enum Stage {
     // nothing stands above
     Start,
     // `(board` stands above
     Opened,
-    // `(rows H)` too
-    Sized,
-    // `(tracks K)` too, and any nets and blocks behind it
+    // `(rows H)` too: H
+    Sized(usize),
+    // `(tracks K)` too, and any nets and blocks behind it: the job has them
     Filled,
     // the closing bracket too
     Closed,
 }
 
-// What the lines above come to, but for the nets and blocks themselves: the stage, the size of the board, how many nets and blocks there
-// are, the number of the last net, and the pins that the nets use. It goes by reference, as its some 300 bytes would be copied for each line.
+// What the tests of a net ask of the nets above it: the number of the last, and the pins that they use. It goes by reference, as its some
+// 260 bytes would be copied for each line.
 #[derive(Clone, Copy)]
-pub struct LinesAbove {
-    pub stage: Stage,
-    pub board: Board,
-    pub nnets: usize,
-    pub nblocks: usize,
+pub struct NetsRead {
     pub last: usize,
     pub used: UsedPins,
 }
 
-// What a line adds to the job: a net, still without a weight, and the weight that its line gives it; or a block.
-#[derive(Clone, Copy)]
-pub enum Entry {
-    OfNet(Net, Option<usize>),
-    OfBlock(Block),
-}
-
-// Nothing stands above.
-pub fn nothing_above() -> LinesAbove
-    ensures { NothingAbove result }
+// No net stands above.
+pub fn no_nets() -> NetsRead
+    ensures { NetsAre [] result }
 {
     let used = jobrules::no_pins();
-    LinesAbove {
-        stage: Stage::Start,
-        board: Board { rows: 0, tracks: 0 },
-        nnets: 0,
-        nblocks: 0,
-        last: 0,
-        used,
-    }
-}
-
-// Holds a net more.
-pub fn net_after(above: &mut LinesAbove, net: Net)
-    requires { (above.old.nnets < 512) × RowsInRange net }
-    ensures { NetAfter above.old net above.new }
-{
-    jobrules::with_pins(&mut above.used, net);
-    above.nnets += 1;
-    above.last = net.number;
-}
-
-// Holds a line that gives neither a net nor a block: the next stage, and H and K where the line has them.
-#[tactic(auto, unfolding(crate::specs::LinesAbove::head_after))]
-pub fn head_after(above: &mut LinesAbove, form: Form)
-    ensures { above.new ≡ head_after above.old form }
-{
-    match form {
-        Form::Board => above.stage = Stage::Opened,
-        Form::Rows(h) => {
-            above.stage = Stage::Sized;
-            above.board.rows = h;
-            above.board.tracks = 0;
-        }
-        Form::Tracks(k) => {
-            above.stage = Stage::Filled;
-            above.board.tracks = k;
-        }
-        Form::Close => above.stage = Stage::Closed,
-        Form::Blank | Form::Net(_, _, _, _, _, _) | Form::Block(_, _, _) | Form::Other => {}
-    }
+    NetsRead { last: 0, used }
 }
 
 // The net of a line by its numbers, still without a weight.
@@ -117,38 +67,6 @@ fn block_on_line(track: usize, first: usize, last: usize) -> Block
     }
 }
 
-// The net or the block that a line of this form gives.
-#[tactic(auto, unfolding(crate::specs::LinesAbove::entry_of))]
-pub fn entry_of(form: Form) -> Option<Entry>
-    ensures { result ≡ entry_of form }
-{
-    match form {
-        Form::Net(number, left, right, min, max, weight) => {
-            Some(Entry::OfNet(net_on_line(number, left, right, min, max), weight))
-        }
-        Form::Block(track, first, last) => Some(Entry::OfBlock(block_on_line(track, first, last))),
-        Form::Blank | Form::Board | Form::Rows(_) | Form::Tracks(_) | Form::Close | Form::Other =>
-            None,
-    }
-}
-
-// Whether a line of this form may stand at a stage: refusal 2.
-#[tactic(auto, unfolding(crate::specs::LinesAbove::form_stands))]
-fn form_stands(stage: Stage, form: Form) -> bool
-    ensures { result ≡ form_stands stage form }
-{
-    match form {
-        Form::Blank => true,
-        Form::Board => matches!(stage, Stage::Start),
-        Form::Rows(_) => matches!(stage, Stage::Opened),
-        Form::Tracks(_) => matches!(stage, Stage::Sized),
-        Form::Net(_, _, _, _, _, _) => matches!(stage, Stage::Filled),
-        Form::Block(_, _, _) => matches!(stage, Stage::Filled),
-        Form::Close => matches!(stage, Stage::Filled),
-        Form::Other => false,
-    }
-}
-
 // Refusal 3 of H or K: it has to be from 1 to `most`.
 fn size_outcome(most: usize, x: usize, line: usize) -> Result<(), Refusal>
     ensures { (s : State) → result ≡ outcome_of (unless (within 1 most x) (Refusal.OutOfRange line) (go s)) }
@@ -159,37 +77,74 @@ fn size_outcome(most: usize, x: usize, line: usize) -> Result<(), Refusal>
     Ok(())
 }
 
-// Refusals 2 to 9 of a line, the first that fits.
-pub fn form_outcome(above: &LinesAbove, form: Form, line: usize) -> Result<(), Refusal>
-    requires { above.now.stage ≡ Stage.Filled → BoardInRange above.now.board }
-    ensures { (job : StoredJob) → AboveOf above.now job → result ≡ outcome_of (step line (state_of above.now.stage job) form) }
+// Adds the net of a line, with its weight, to the job.
+fn add_net(
+    nets: &mut NetsRead,
+    job: &mut StoredJob,
+    given: Net,
+    weight: Option<usize>,
+    line: usize,
+) -> Result<Stage, Refusal>
+    requires { Held Stage.Filled nets.old job.old }
+    ensures { Taken (add_net line (with_weight job.old.board given weight) weight (job_of job.old)) result nets.new job.new }
 {
-    if !form_stands(above.stage, form) {
-        return Err(Refusal::NotOfForm(line));
-    }
-    match form {
-        Form::Blank => Ok(()),
-        Form::Board => Ok(()),
-        Form::Rows(h) => size_outcome(1024, h, line),
-        Form::Tracks(k) => size_outcome(128, k, line),
-        Form::Net(number, left, right, min, max, weight) => {
+    let board = job.board;
+    let i = job.nnets;
+    let numbered = nets.last < given.number;
+    jobrules::net_outcome(board, i, &nets.used, given, weight, numbered, line)?;
+    let given = BoardNet { board, net: given };
+    let net = jobrules::with_weight(given, weight);
+    job.nets[i] = net;
+    job.nnets = i + 1;
+    jobrules::with_pins(&mut nets.used, net);
+    nets.last = net.number;
+    Ok(Stage::Filled)
+}
+
+// Adds the block of a line to the job.
+fn add_block(job: &mut StoredJob, block: Block, line: usize) -> Result<Stage, Refusal>
+    requires { Filled job.old }
+    ensures { (nets : NetsRead) → NetsAre (job_of job.old).nets nets → Taken (add_block line block (job_of job.old)) result nets job.new }
+{
+    let i = job.nblocks;
+    jobrules::block_outcome(job.board, i, block, line)?;
+    job.blocks[i] = block;
+    job.nblocks = i + 1;
+    Ok(Stage::Filled)
+}
+
+// Takes a line of this form: the stage behind it, or the refusal of the line, the first of 2 to 9 that fits.
+#[tactic(auto, using(crate::proofs::Taking::line_taken))]
+pub fn take_line(
+    stage: Stage,
+    nets: &mut NetsRead,
+    job: &mut StoredJob,
+    form: Form,
+    line: usize,
+) -> Result<Stage, Refusal>
+    requires { Held stage nets.old job.old }
+    ensures { Taken (step line (state_of stage job.old) form) result nets.new job.new }
+{
+    match (stage, form) {
+        (_, Form::Blank) => Ok(stage),
+        (Stage::Start, Form::Board) => Ok(Stage::Opened),
+        (Stage::Opened, Form::Rows(rows)) => {
+            size_outcome(1024, rows, line)?;
+            Ok(Stage::Sized(rows))
+        }
+        (Stage::Sized(rows), Form::Tracks(tracks)) => {
+            size_outcome(128, tracks, line)?;
+            job.board = Board { rows, tracks };
+            Ok(Stage::Filled)
+        }
+        (Stage::Filled, Form::Net(number, left, right, min, max, weight)) => {
             let net = net_on_line(number, left, right, min, max);
-            let numbered = above.last < number;
-            jobrules::net_outcome(
-                above.board,
-                above.nnets,
-                &above.used,
-                net,
-                weight,
-                numbered,
-                line,
-            )
+            add_net(nets, job, net, weight, line)
         }
-        Form::Block(track, first, last) => {
-            let block = block_on_line(track, first, last);
-            jobrules::block_outcome(above.board, above.nblocks, block, line)
+        (Stage::Filled, Form::Block(track, first, last)) => {
+            add_block(job, block_on_line(track, first, last), line)
         }
-        Form::Close => Ok(()),
-        Form::Other => Err(Refusal::NotOfForm(line)),
+        (Stage::Filled, Form::Close) => Ok(Stage::Closed),
+        _ => Err(Refusal::NotOfForm(line)),
     }
 }

@@ -25,7 +25,7 @@ use Rattle.sound.specs.Wires.{weight_of}
 use Rattle.sound.proofs.Nets.{weight_of_lem}
 use Rattle.candidates.specs.Placed.{padded}
 use Rattle.candidates.proofs.Prefixes.{padded_more}
-use Rattle.judging.specs.declared.NetFound.{NetFound}
+use Rattle.judging.specs.declared.found.NetFound.{NetFound}
 use Rattle.judging.specs.Values.{is_numbered, position_numbered, NetIs}
 
 -- ---- the numbers of nets in an array
@@ -87,9 +87,9 @@ index_none ns k is n m =
 
 module _ (job : Job) (found : NetFound) (is : NetIs job found) where
   -- it is a net of the job
-  pub found_listed : Memᴰ found.net job.nets
+  pub found_listed : Memᴰ found.net.net job.nets
   found_listed = subst (λ q. Memᴰ q job.nets) is.net_is (mem_at job.nets found.index no_net is.index_range)
 
   -- a wire of its number counts its weight
-  pub found_weight : AcceptedJob job → (k : ℕ) → found.net.number ≡ k → weight_of job k ≡ weight found.net
-  found_weight a k e = ap (weight_of job) (sym e) ∙ weight_of_lem job a.numbers_rise found.net found_listed
+  pub found_weight : AcceptedJob job → (k : ℕ) → found.net.net.number ≡ k → weight_of job k ≡ weight found.net.net
+  found_weight a k e = ap (weight_of job) (sym e) ∙ weight_of_lem job a.numbers_rise found.net.net found_listed

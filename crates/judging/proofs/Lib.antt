@@ -2,6 +2,7 @@
 pub mod Indexes
 pub mod LinedNets
 pub mod LinesAdded
+pub mod Remaining
 pub mod Rows
 pub mod Turns
 pub mod Steps

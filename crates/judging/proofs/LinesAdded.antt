@@ -14,7 +14,6 @@ use Rattle.lists.proofs.Laws.{Each-at, mem_any_of}
 use Rattle.lists.proofs.Cases.{by_test, and_split}
 use Rattle.lists.proofs.Joins.{any_of_more}
 use Rattle.lists.proofs.Places.{mem_at, map_at}
-use Rattle.board.specs.declared.Board.{Board}
 use Rattle.board.specs.declared.Net.{Net}
 use Rattle.board.specs.Job.{Job}
 use Rattle.board.specs.Length.{span, extra}
@@ -29,7 +28,7 @@ use Rattle.blockmap.proofs.ClearRows.{clear_same}
 use Rattle.drc.specs.Judge.{is_sound_place, is_unlined}
 use Rattle.drc.specs.Pass.{Summary, is_next_wire}
 use Rattle.judging.specs.declared.LinesAbove.{LinesAbove}
-use Rattle.judging.specs.declared.WireDrawn.{WireDrawn}
+use Rattle.judging.specs.declared.found.WireDrawn.{WireDrawn}
 use Rattle.judging.specs.Judged.{NetLines}
 use Rattle.judging.proofs.Indexes.{index_number, index_none}
 use Rattle.judging.specs.Values.{is_numbered, position_numbered, is_allowed, ready_at, is_next_at, NetIs, MapOf}
@@ -158,33 +157,35 @@ module _ (job : Job) (a : AcceptedJob job) where
 
     pub next_same : (words : List ℕ) (w : WireDrawn) (j : LinesAbove) → NetIs job w.found → MapOf job m.track words →
         j.track.0 ≡ m.track → j.lowest.0 ≡ m.lowest →
-        is_next_at job.board words stands w j ≡ is_next_wire job m (Some (placement_at w.found.net w.shape w.top.0))
+        is_next_at words stands w j ≡ is_next_wire job m (Some (placement_at w.found.net.net w.wired.shape w.wired.top.0))
     unfolding is_next_at is_allowed is_next_wire is_sound_place is_long is_short is_clear covered
     next_same words w j is blocks on low =
         let found = w.found in
-        let top = w.top.0 in
-        let s = w.shape in
-        let rows : span found.net + 1 + extra s ≡ top + span found.net + extra s + 1 - top = omega arith in
-        let lined : is_on m.lined found.net ≡ not (eqb (get_or stands found.index 0) 0) =
+        let n = found.net.net in
+        let top = w.wired.top.0 in
+        let s = w.wired.shape in
+        let rows : span n + 1 + extra s ≡ top + span n + extra s + 1 - top = omega arith in
+        let lined : is_on m.lined n ≡ not (eqb (get_or stands found.index 0) 0) =
         ap (λ n. is_on m.lined n) (sym is.net_is) ∙ old.lined_at found.index is.index_range in
         rw (
           on,
           low,
           lined,
           is.before_is,
-          ready_same found.net,
+          ready_same n,
           rows,
-          clear_same job m.track words blocks top (top + span found.net + extra s + 1 - top),
+          ← is.board_is,
+          clear_same job m.track words blocks top (top + span n + extra s + 1 - top),
           not-not (eqb (get_or stands found.index 0) 0),
         )
 
 -- a wire that may stand is of a net without a line above
-pub next_new : (board : Board) (words stands : List ℕ) (w : WireDrawn) (j : LinesAbove) →
-    is_next_at board words stands w j ≡ true → eqb (get_or stands w.found.index 0) 0 ≡ true
+pub next_new : (words stands : List ℕ) (w : WireDrawn) (j : LinesAbove) →
+    is_next_at words stands w j ≡ true → eqb (get_or stands w.found.index 0) 0 ≡ true
 unfolding is_next_at
-next_new board words stands w j t =
-    let long = is_allowed board w.found.net w.shape in
-    let clear = all_unset words w.top.0 (covered w.found.net w.shape) in
+next_new words stands w j t =
+    let long = is_allowed w.found.net w.wired.shape in
+    let clear = all_unset words w.wired.top.0 (covered w.found.net.net w.wired.shape) in
     let new = eqb (get_or stands w.found.index 0) 0 in
     let ready = ready_at w.found.before stands j.track.0 in
-    (and_split (long && clear) new (and_split (long && clear && new) ready (and_split (long && clear && new && ready) (ltb j.lowest.0 w.top.0) t).0).0).1
+    (and_split (long && clear) new (and_split (long && clear && new) ready (and_split (long && clear && new && ready) (ltb j.lowest.0 w.wired.top.0) t).0).0).1

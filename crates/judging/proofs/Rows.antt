@@ -1,5 +1,5 @@
 -- The rows that a wire is drawn over, and the answer of a search for a blocked one. Assumes nothing.
-use Prim.Native.Nat.{ℕ, ◌+◌, ◌-◌, ◌≤◌, ◌<◌, max}
+use Prim.Native.Nat.{ℕ, ◌+◌, ◌-◌, ◌≤◌, ◌<◌}
 use mathlib.Core.Path.{◌≡◌, sym, ◌∙◌}
 use mathlib.Core.Bool.{Bool, true, false}
 use mathlib.Core.List.{List}
@@ -11,23 +11,18 @@ use Rattle.std.proofs.lemmas.List.FromFn.{length-range_with_len, get_or-range_wi
 use Rattle.blockmap.specs.Bits.{is_set}
 use Rattle.blockmap.specs.Clear.{all_unset}
 use Rattle.blockmap.proofs.ClearRows.{clear_of, blocked_in}
-use Rattle.board.specs.declared.Board.{Board}
 use Rattle.board.specs.declared.Net.{Net}
 use Rattle.board.specs.declared.Shape.{Shape}
-use Rattle.board.specs.Length.{lower, span, extra}
+use Rattle.board.specs.Length.{span, extra}
 use Rattle.board.specs.Placement.{covered}
-use Rattle.judging.specs.declared.WireDrawn.{WireDrawn}
-use Rattle.judging.specs.Values.{NetFits}
+use Rattle.judging.specs.declared.found.WireDrawn.{WireDrawn}
 
--- the numbers of a net that fits
-pub fits_covered : (board : Board) (w : WireDrawn) → NetFits board w →
-    (lower w.found.net ≤ 1024) × (extra w.shape ≤ 2048) × (w.top.0 + covered w.found.net w.shape ≤ 1025)
+-- the rows of a wire that is drawn on the board
+pub drawn_rows : (w : WireDrawn) → (extra w.wired.shape ≤ 2048) × (w.wired.top.0 + covered w.found.net.net w.wired.shape ≤ 1025)
 unfolding covered
-fits_covered board w f =
-    let r = f.board_range.rows_range in
-    let n = f.net_range.in_range in
-    let low : lower w.found.net ≤ max w.found.net.left.0 w.found.net.right.0 = unfold lower in (omega arith) in
-    (omega arith, omega (arith, f.to_last), omega (arith, f.to_last))
+drawn_rows w =
+    let r = w.found.net.board_in_range.rows_range in
+    (omega (arith, w.to_last), omega (arith, w.to_last))
 
 -- the lowest row is that of the placement
 pub lowest_row : (top : ℕ) (n : Net) (s : Shape) → top + covered n s - 1 ≡ top + span n + extra s

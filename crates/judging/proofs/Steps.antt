@@ -1,7 +1,7 @@
 -- What a line leads to, by value, is what it leads to in the pass. What a wire adds: WireSteps.antt. Assumes nothing.
 use Prim.Native.Nat.{ℕ, suc, ◌≤◌, ◌<◌}
 use mathlib.Core.Path.{◌≡◌, refl, sym, ap, subst, ◌∙◌}
-use mathlib.Core.Bool.{true, false, not, ◌&&◌, and-true, and-false}
+use mathlib.Core.Bool.{true, false, not, ◌&&◌, and-true, and-false, false≢true}
 use Rattle.std.specs.Prelude.{Option, None, Some, Ok, Err, unwrap_or}
 use mathlib.Core.List.{List}
 use native.Mathlib.Omega.{arith}
@@ -21,7 +21,8 @@ use Rattle.drc.specs.Pass.{Summary, add_track, add_wire, add_loose, PassState, u
 use Rattle.judging.specs.declared.LinesAbove.{LinesAbove}
 use Rattle.judging.specs.declared.LinesJudged.TheVariants as Is
 use Rattle.judging.specs.Judged.{NetLines, KeepsSummary, KeepsState, KeepsStep}
-use Rattle.judging.specs.Values.{position_numbered, broken_track}
+use Rattle.judging.specs.Values.{position_numbered, broken_track, is_end_line}
+use Rattle.judging.proofs.Remaining.{remaining_all}
 use Rattle.judging.proofs.Turns.{can_stand, closes_off, judged_off, judged_on, unbroken}
 use Rattle.judging.proofs.LinedNets.{lined_all, lined_not}
 use Rattle.judging.proofs.Indexes.{index_number}
@@ -31,7 +32,7 @@ use Rattle.judging.proofs.LinesAdded.{line_added, unlined_none, unlined_some}
 
 -- behind `(layout`
 abbrev pub opened : LinesAbove
-opened = record { track = record { 0 = 0 }; line = 0; printed = 0; sum = 0; lowest = record { 0 = 0 }; last = 0; breach = None }
+opened = record { track = record { 0 = 0 }; line = 0; remaining = Some 0; lowest = record { 0 = 0 }; last = 0; breach = None }
 
 pub opening_taken : (job : Job) (n : ℕ) (st : PassState) (stands : List ℕ) → KeepsState job st Is.Unbegun stands →
     KeepsStep job (pass_line job n st opens) (Ok (Is.Running opened)) stands
@@ -41,8 +42,7 @@ opening_taken job n unbegun stands k =
     record {
       track_is = refl;
       line_is = refl;
-      printed_is = refl;
-      sum_is = refl;
+      remaining_is = remaining_all 0;
       lowest_is = refl;
       last_is = refl;
       breach_is = refl;
@@ -96,21 +96,27 @@ module _ (job : Job) (n : ℕ) (j : LinesAbove) (stands : List ℕ) where
   unfolding pass_in_turn
   track_off st u s = ends_broken st (track u s) (λ m. passes_on (running (add_track n u s m))) (λ m. refl)
 
-  pub loose_off : (st : PassState) (i l : ℕ) → broken_track j ≡ Some l → can_stand job st (loose i) ≡ true → KeepsState job st (Is.Running j) stands →
+  loose_off : (st : PassState) (i l : ℕ) → broken_track j ≡ Some l → can_stand job st (loose i) ≡ true → KeepsState job st (Is.Running j) stands →
       KeepsStep job (pass_line job n st (loose i)) (Err l) stands
   unfolding pass_in_turn
   loose_off st i = ends_broken st (loose i) (λ m. or_broken n (is_unlined job m.lined i && ltb m.last i) (passes_on (running (add_loose i m)))) (λ m. refl)
 
-  pub closing_off : (st : PassState) (l : ℕ) → broken_track j ≡ Some l → can_stand job st closes ≡ true → KeepsState job st (Is.Running j) stands →
+  closing_off : (st : PassState) (l : ℕ) → broken_track j ≡ Some l → can_stand job st closes ≡ true → KeepsState job st (Is.Running j) stands →
       KeepsStep job (pass_line job n st closes) (Err l) stands
   unfolding pass_in_turn
   closing_off st = ends_broken st closes (λ m. or_broken n (all_of (is_on m.lined) job.nets) (passes_on finished)) (λ m. refl)
+
+  pub end_off : (st : PassState) (x : Line) (l : ℕ) → is_end_line x ≡ true → broken_track j ≡ Some l → can_stand job st x ≡ true → KeepsState job st (Is.Running j) stands →
+      KeepsStep job (pass_line job n st x) (Err l) stands
+  end_off st (loose i) l e = loose_off st i l
+  end_off st closes l e = closing_off st l
+  end_off st x l e = absurd (false≢true e)
 
   -- ---- a track line
 
   -- behind it
   abbrev under_track : ℕ → ℕ → LinesAbove
-  under_track u s = record { track = record { 0 = u }; line = n; printed = s; sum = 0; lowest = record { 0 = 0 }; last = j.last; breach = None }
+  under_track u s = record { track = record { 0 = u }; line = n; remaining = Some s; lowest = record { 0 = 0 }; last = j.last; breach = None }
 
   track_added : (u s : ℕ) (m : Summary) → m.track < u → KeepsSummary job m j stands → j.breach ≡ None → KeepsSummary job (add_track n u s m) (under_track u s) stands
   track_added u s m l h z =
@@ -118,8 +124,7 @@ module _ (job : Job) (n : ℕ) (j : LinesAbove) (stands : List ℕ) where
       record {
         track_is = refl;
         line_is = refl;
-        printed_is = refl;
-        sum_is = refl;
+        remaining_is = remaining_all s;
         lowest_is = refl;
         last_is = h.last_is;
         breach_is = refl;
@@ -199,8 +204,7 @@ module _ (job : Job) (n : ℕ) (j : LinesAbove) (stands : List ℕ) where
     behind_loose = record {
       track = j.track;
       line = j.line;
-      printed = j.printed;
-      sum = j.sum;
+      remaining = j.remaining;
       lowest = j.lowest;
       last = number;
       breach = j.breach;
@@ -247,8 +251,7 @@ module _ (job : Job) (n : ℕ) (j : LinesAbove) (stands : List ℕ) where
           record {
             track_is = h.track_is;
             line_is = h.line_is;
-            printed_is = h.printed_is;
-            sum_is = h.sum_is;
+            remaining_is = h.remaining_is;
             lowest_is = h.lowest_is;
             last_is = refl;
             breach_is = h.breach_is;

@@ -1,7 +1,7 @@
 -- Where a pass stands by value: which line can stand there, where the judging closes, and where the wires of a track end. Assumes nothing.
 use Prim.Native.Nat.{ℕ, suc, ◌+◌, ◌≤◌}
 use mathlib.Core.Path.{◌≡◌, refl, sym, ◌∙◌}
-use mathlib.Core.Bool.{Bool, true, false, ◌&&◌, and-false, and-true}
+use mathlib.Core.Bool.{Bool, true, false, ◌&&◌, and-false, and-true, false≢true}
 use Rattle.std.specs.Prelude.{Option, None, Some, Err, unwrap_or}
 use mathlib.Core.List.{List}
 use native.Mathlib.Omega.{arith}
@@ -16,7 +16,8 @@ use Rattle.judging.specs.declared.LinesAbove.{LinesAbove}
 use Rattle.judging.specs.declared.LinesJudged.{LinesJudged}
 use Rattle.judging.specs.declared.LinesJudged.TheVariants as Is
 use Rattle.judging.specs.Judged.{KeepsSummary, KeepsState, KeepsStep}
-use Rattle.judging.specs.Values.{closed_of, broken_track, is_track_turn, is_wire_turn}
+use Rattle.judging.specs.Values.{closed_of, is_used_up, broken_track, is_track_turn, is_wire_turn, is_end_line}
+use Rattle.judging.proofs.Remaining.{used_up}
 
 -- the next track in turn is one of the board
 next_track : (b : Bool) (t u k : ℕ) → (b && ltb t k && eqb u (t + 1)) ≡ (b && (eqb u (suc t) && leb u k))
@@ -71,6 +72,16 @@ module _ (job : Job) where
   idle_off n (running m) x (Is.Running j) stands o d k = absurd (d j refl)
   idle_off n st x j stands o d k = absurd k
 
+  end_not_opening : (x : Line) → is_end_line x ≡ true → is_opening x ≡ false
+  unfolding is_opening
+  end_not_opening (loose i) e = refl
+  end_not_opening closes e = refl
+  end_not_opening x e = absurd (false≢true e)
+
+  pub end_idle : (n : ℕ) (st : PassState) (x : Line) (j : LinesJudged) (stands : List ℕ) → is_end_line x ≡ true → ((i : LinesAbove) → j ≡ Is.Running i → ⊥) →
+      KeepsState job st j stands → KeepsStep job (pass_line job n st x) (Err n) stands
+  end_idle n st x j stands e = idle_off n st x j stands (end_not_opening x e)
+
   -- ---- which line can stand there, on values
 
   module _ (k : ℕ) (is : job.board.tracks ≡ k) (j : LinesAbove) (stands : List ℕ) where
@@ -86,24 +97,39 @@ module _ (job : Job) where
     wire_place (running m) w h = rw (h.last_is, h.track_is, is)
     wire_place finished w h = absurd h
 
-    pub loose_place : (st : PassState) (i : ℕ) → KeepsState job st (Is.Running j) stands → eqb j.track.0 k ≡ can_stand st (loose i)
+    loose_place : (st : PassState) (i : ℕ) → KeepsState job st (Is.Running j) stands → eqb j.track.0 k ≡ can_stand st (loose i)
     unfolding can_stand is_in_turn ends_track
     loose_place unbegun i h = absurd h
     loose_place (running m) i h = rw (h.track_is, is)
     loose_place finished i h = absurd h
 
-    pub closing_place : (st : PassState) → KeepsState job st (Is.Running j) stands → eqb j.track.0 k ≡ can_stand st closes
+    closing_place : (st : PassState) → KeepsState job st (Is.Running j) stands → eqb j.track.0 k ≡ can_stand st closes
     unfolding can_stand is_in_turn ends_track
     closing_place unbegun h = absurd h
     closing_place (running m) h = rw (h.track_is, is)
     closing_place finished h = absurd h
+
+    -- a loose line or the closing line
+    pub end_place : (st : PassState) (x : Line) → is_end_line x ≡ true → KeepsState job st (Is.Running j) stands → eqb j.track.0 k ≡ can_stand st x
+    end_place st (loose i) e h = loose_place st i h
+    end_place st closes e h = closing_place st h
+    end_place st x e h = absurd (false≢true e)
+
+    -- a line whose test is passed, and one whose test fails
+    module _ (m : LinesJudged) (runs : m ≡ Is.Running j) (st : PassState) (x : Line) (passed : Bool)
+        (told : KeepsState job st (Is.Running j) stands → passed ≡ can_stand st x) (h : KeepsState job st m stands) where
+      pub in_place : passed ≡ true → (KeepsState job st (Is.Running j) stands) × (can_stand st x ≡ true)
+      in_place t = let g = rw runs at h in (g, sym (told g) ∙ t)
+
+      pub out_of_place : (n : ℕ) → passed ≡ false → KeepsStep job (pass_line job n st x) (Err (unwrap_or j.breach n)) stands
+      out_of_place n t = let g = rw runs at h in closes_off n st x (Is.Running j) stands g (sym (told g) ∙ t)
 
   -- ---- the wires of a track end
 
   module _ (m : Summary) (j : LinesAbove) (stands : List ℕ) (h : KeepsSummary job m j stands) (x : PassStep) where
     judged_as : judged_track m x ≡ unless_breach (broken_track j) x
     unfolding judged_track unless_breach
-    judged_as = rw (h.sum_is, h.printed_is, h.line_is, h.breach_is) (by_test (eqb j.sum j.printed) (λ t. rw t) (λ t. rw t))
+    judged_as = rw (← used_up m.printed m.sum, h.remaining_is, h.line_is, h.breach_is) (by_test (is_used_up j.remaining) (λ t. rw t) (λ t. rw t))
 
     -- the verdict stands
     pub judged_off : (l : ℕ) → broken_track j ≡ Some l → judged_track m x ≡ decides (broken_at l)
@@ -118,7 +144,7 @@ module _ (job : Job) where
 -- no wire of a track that is not broken is
 pub unbroken : (j : LinesAbove) → broken_track j ≡ None → j.breach ≡ None
 unbroken j e =
-    by_test (eqb j.sum j.printed)
+    by_test (is_used_up j.remaining)
     (λ t. rw t at e)
     (λ t. let f : Some j.line ≡ None = rw t at e in let z : ◌≡◌ {A = ℕ} 0 1 = cc in absurd (omega arith))
 

@@ -17,9 +17,10 @@ use Rattle.layout.specs.Tree.{Wire}
 use Rattle.sound.specs.Wires.{weight_of}
 use Rattle.drc.specs.Pass.{Summary, add_wire, is_next_wire, lowest_of, breach_after}
 use Rattle.judging.specs.declared.LinesAbove.{LinesAbove}
-use Rattle.judging.specs.declared.WireDrawn.{WireDrawn}
+use Rattle.judging.specs.declared.found.WireDrawn.{WireDrawn}
 use Rattle.judging.specs.Judged.{NetLines, KeepsSummary}
-use Rattle.judging.specs.Values.{is_next_at, NetIs, MapOf}
+use Rattle.judging.specs.Values.{remaining_of, remaining_after, is_next_at, NetIs, MapOf}
+use Rattle.judging.proofs.Remaining.{remaining_more}
 use Rattle.judging.proofs.Rows.{lowest_row}
 use Rattle.judging.proofs.Indexes.{found_weight}
 use Rattle.judging.proofs.LinesAdded.{line_added, next_same, next_new}
@@ -43,12 +44,16 @@ module _ (job : Job) (n : ℕ) (s : Summary) (w : Wire) (j : LinesAbove) where
   behind_wire more lowest breach = record {
     track = j.track;
     line = j.line;
-    printed = j.printed;
-    sum = j.sum + more;
+    remaining = remaining_after j.remaining more;
     lowest = record { 0 = lowest };
     last = j.last;
     breach = breach;
   }
+
+  -- what remains of the sum behind it
+  remains : (before : List ℕ) (more : ℕ) → weight_of job w.number ≡ more → KeepsSummary job s j before →
+      remaining_of s.printed (s.sum + weight_of job w.number) ≡ remaining_after j.remaining more
+  remains before more v h = sym (remaining_more s.printed s.sum (weight_of job w.number)) ∙ ap₂ remaining_after h.remaining_is v
 
   -- that draws no placement of its net
   pub undrawn_added : (before after : List ℕ) (more : ℕ) → weight_of job w.number ≡ more → KeepsSummary job s j before →
@@ -58,30 +63,29 @@ module _ (job : Job) (n : ℕ) (s : Summary) (w : Wire) (j : LinesAbove) where
       record {
         track_is = h.track_is;
         line_is = h.line_is;
-        printed_is = h.printed_is;
-        sum_is = ap₂ (λ x y. x + y) h.sum_is v;
+        remaining_is = remains before more v h;
         lowest_is = h.lowest_is;
         last_is = h.last_is;
         breach_is = ap (λ (f : Option ℕ). breach_after f n false) h.breach_is;
         lines_are = λ z. absurd (false≢true (no_breach j.breach n false z).1);
       }
 
-  module _ (a : AcceptedJob job) (drawn : WireDrawn) (is : NetIs job drawn.found) (numbered : drawn.found.net.number ≡ w.number) (words stands : List ℕ)
+  module _ (a : AcceptedJob job) (drawn : WireDrawn) (is : NetIs job drawn.found) (numbered : drawn.found.net.net.number ≡ w.number) (words stands : List ℕ)
       (blocks : MapOf job j.track.0 words) (begun : 1 ≤ j.track.0) where
     abbrev next : Bool
-    next = is_next_at job.board words stands drawn j
+    next = is_next_at words stands drawn j
 
     -- the placement that is drawn
     abbrev placed : Placement
-    placed = placement_at drawn.found.net drawn.shape drawn.top.0
+    placed = placement_at drawn.found.net.net drawn.wired.shape drawn.wired.top.0
 
     new_net : next ≡ true → get_or stands drawn.found.index 0 ≡ 0
-    new_net t = eqb-true (get_or stands drawn.found.index 0) 0 (next_new job.board words stands drawn j t)
+    new_net t = eqb-true (get_or stands drawn.found.index 0) 0 (next_new words stands drawn j t)
 
     -- that draws its net
     drawn_added : KeepsSummary job s j stands →
         KeepsSummary job (add_wire job n w (Some placed) s)
-        (behind_wire (weight drawn.found.net) (drawn.top.0 + span drawn.found.net + extra drawn.shape) (breach_after j.breach n next))
+        (behind_wire (weight drawn.found.net.net) (drawn.wired.top.0 + span drawn.found.net.net + extra drawn.wired.shape) (breach_after j.breach n next))
         (set stands drawn.found.index j.track.0)
     unfolding lowest_of
     drawn_added h =
@@ -89,8 +93,7 @@ module _ (job : Job) (n : ℕ) (s : Summary) (w : Wire) (j : LinesAbove) where
         record {
           track_is = h.track_is;
           line_is = h.line_is;
-          printed_is = h.printed_is;
-          sum_is = ap₂ (λ x y. x + y) h.sum_is (found_weight job drawn.found is a w.number numbered);
+          remaining_is = remains stands (weight drawn.found.net.net) (found_weight job drawn.found is a w.number numbered) h;
           lowest_is = refl;
           last_is = h.last_is;
           breach_is =
@@ -105,7 +108,7 @@ module _ (job : Job) (n : ℕ) (s : Summary) (w : Wire) (j : LinesAbove) where
         }
 
     -- the same of what the code works out
-    pub drawn_kept : (more lowest : ℕ) (breach : Option ℕ) → more ≡ weight drawn.found.net → lowest ≡ drawn.top.0 + covered drawn.found.net drawn.shape - 1 →
+    pub drawn_kept : (lowest : ℕ) (breach : Option ℕ) → lowest ≡ drawn.wired.top.0 + covered drawn.found.net.net drawn.wired.shape - 1 →
         breach ≡ breach_after j.breach n next → KeepsSummary job s j stands →
-        KeepsSummary job (add_wire job n w (Some placed) s) (behind_wire more lowest breach) (set stands drawn.found.index j.track.0)
-    drawn_kept more lowest breach e f g h = rw (e, f ∙ lowest_row drawn.top.0 drawn.found.net drawn.shape, g) (drawn_added h)
+        KeepsSummary job (add_wire job n w (Some placed) s) (behind_wire (weight drawn.found.net.net) lowest breach) (set stands drawn.found.index j.track.0)
+    drawn_kept lowest breach f g h = rw (f ∙ lowest_row drawn.wired.top.0 drawn.found.net.net drawn.wired.shape, g) (drawn_added h)

@@ -1,5 +1,5 @@
 -- What the check keeps of the lines above, by value, held against what the pass of the definitions keeps.
-use Rattle.std.specs.Prelude.{ℕ, ◌*◌, ◌-◌, ◌≤◌, ◌<◌, ◌≡◌, not, ◌&&◌, List, eqb, ltb, length, get_or, None, Result, Ok, Err}
+use Rattle.std.specs.Prelude.{ℕ, ◌≤◌, ◌<◌, ◌≡◌, not, ◌&&◌, List, eqb, ltb, length, get_or, None, Result, Ok, Err}
 use Rattle.board.specs.Job.{Job}
 use Rattle.board.specs.Stored.{no_net}
 use Rattle.board.specs.Tests.{is_on}
@@ -8,6 +8,7 @@ use Rattle.drc.specs.Pass.{Summary, PassState, unbegun, running, finished, PassS
 use Rattle.judging.specs.declared.LinesAbove.{LinesAbove}
 use Rattle.judging.specs.declared.LinesJudged.{LinesJudged}
 use Rattle.judging.specs.declared.LinesJudged.TheVariants as Is
+use Rattle.judging.specs.Values.{remaining_of}
 
 -- stands[k] is the track line under which the line of net k stands, wire or loose; 0 where net k has no line above
 pub record NetLines (job : Job) (m : Summary) (stands : List ℕ) : Type 0 where
@@ -21,8 +22,7 @@ pub record NetLines (job : Job) (m : Summary) (stands : List ℕ) : Type 0 where
 pub record KeepsSummary (job : Job) (m : Summary) (j : LinesAbove) (stands : List ℕ) : Type 0 where
   pub track_is : m.track ≡ j.track.0
   pub line_is : m.line ≡ j.line
-  pub printed_is : m.printed ≡ j.printed
-  pub sum_is : m.sum ≡ j.sum
+  pub remaining_is : remaining_of m.printed m.sum ≡ j.remaining
   pub lowest_is : m.lowest ≡ j.lowest.0
   pub last_is : m.last ≡ j.last
   pub breach_is : m.breach ≡ j.breach
@@ -40,15 +40,3 @@ abbrev pub KeepsStep : Job → PassStep → Result LinesJudged ℕ → List ℕ 
 KeepsStep job (passes_on st) (Ok j) stands = KeepsState job st j stands
 KeepsStep job (decides v) (Err l) stands = v ≡ broken_at l
 KeepsStep job y r stands = ⊥
-
--- the numbers kept behind n lines: a track is at most 128, and each line adds at most 4,096 to a sum, so that none runs over
-abbrev pub JudgedInRange : ℕ → LinesJudged → Type 0
-JudgedInRange n Is.Unbegun = Unit {0}
-JudgedInRange n (Is.Running j) = (j.track.0 ≤ 128) × (j.sum ≤ 4096 * n)
-JudgedInRange n Is.Finished = Unit {0}
-
--- line n of a text of at most 64,000 bytes, or the line after its last, where j is what is kept of the lines above it
-pub record LineInRange (n : ℕ) (j : LinesJudged) : Type 0 where
-  pub from_one : 1 ≤ n
-  pub to_last : n ≤ 64001
-  pub sum_range : JudgedInRange (n - 1) j

@@ -1,29 +1,32 @@
 // The lines of a layout judged one by one: what the check keeps of the lines above, by value, and what each line leads to.
 #![tactic(auto)]
 
+mod found;
 pub mod nets;
 pub mod wires;
 
-ghost use Rattle.std.specs.Prelude.{◌≡◌, ◌≢◌, ◌↔◌, IsTrue, slice_index, List, ℕ, ◌≤◌, ◌<◌, eqb, length, unwrap_or, IfOk, IfSome, MatchResult};
+ghost use Rattle.std.specs.Prelude.{◌≡◌, ◌≢◌, ◌↔◌, IsTrue, slice_index, List, ℕ, ◌≤◌, ◌<◌, eqb, length, unwrap_or, true, None, IfOk, IfErr, IfSome, MatchResult, Err};
 ghost use Rattle.board.specs.Job.{Job};
 ghost use Rattle.board.specs.Accepted.{AcceptedJob};
 ghost use Rattle.layout.specs.Tree as Tree;
-ghost use Rattle.layout.specs.Tree.{opens, loose, closes};
+ghost use Rattle.layout.specs.Tree.{Line, opens, loose, closes};
 ghost use Rattle.drc.specs.Pass.{PassState, pass_line};
-ghost use Rattle.judging.specs.Judged.{KeepsState, KeepsStep, JudgedInRange, LineInRange};
-ghost use Rattle.judging.specs.Values.{position_numbered, track_of, closed_of, broken_track, is_track_turn, is_wire_turn};
+ghost use Rattle.judging.specs.declared.LinesJudged.TheVariants.{Running};
+ghost use Rattle.judging.specs.Judged.{KeepsState, KeepsStep};
+ghost use Rattle.judging.specs.Values.{position_numbered, track_of, closed_of, broken_track, is_track_turn, is_wire_turn, is_end_line};
 
-use board::{Net, Row, Shape, Track};
+use board::{Row, Track};
+pub use found::{NetFound, WireDrawn};
 
-// What is kept of the lines above, where `(layout` stands above and `)` does not: the last track line, its track, its line, the sum that it
-// prints and the sum of its wires so far; the lowest row of the last wire drawn on the track; the number of the last loose line; and the line
-// of the first broken wire of the track. The track, the row and the number are 0 where there is none, which is below each that can follow.
+// What is kept of the lines above, where `(layout` stands above and `)` does not: the last track line, its track, its line, and what remains
+// of the sum that it prints, if its wires so far don't add up to more; the lowest row of the last wire drawn on the track; the number of the
+// last loose line; and the line of the first broken wire of the track. The track, the row and the number are 0 where there is none, which is
+// below each that can follow.
 #[derive(Clone, Copy)]
 pub struct LinesAbove {
     pub track: Track,
     pub line: usize,
-    pub printed: usize,
-    pub sum: usize,
+    pub remaining: Option<usize>,
     pub lowest: Row,
     pub last: usize,
     pub breach: Option<usize>,
@@ -38,22 +41,6 @@ pub enum LinesJudged {
     Running(LinesAbove),
     // `)` stands above
     Finished,
-}
-
-// The net of a line: its index in the job, and the index of the net that precedes it.
-#[derive(Clone, Copy)]
-pub struct NetFound {
-    pub index: usize,
-    pub net: Net,
-    pub before: Option<usize>,
-}
-
-// A wire line that draws its net: the net, and the shape and the top row in which it is drawn.
-#[derive(Clone, Copy)]
-pub struct WireDrawn {
-    pub found: NetFound,
-    pub top: Row,
-    pub shape: Shape,
 }
 
 // Whether each of the first `count` nets has a line above.
@@ -77,9 +64,9 @@ impl LinesAbove {
     fn settled(self) -> Result<(), usize>
         ensures { MatchResult result (λ _. broken_track self ≡ None) (λ l. broken_track self ≡ Some l) }
     {
-        if self.sum != self.printed {
+        let Some(0) = self.remaining else {
             return Err(self.line);
-        }
+        };
         match self.breach {
             Some(line) => Err(line),
             None => Ok(()),
@@ -133,14 +120,13 @@ impl LinesJudged {
     // What the opening line leads to.
     pub fn take_opening(self, line: usize) -> Result<LinesJudged, usize>
         ensures keeps_step { (job : Job) (st : PassState) (stands : List ℕ) → KeepsState job st self stands → KeepsStep job (pass_line job line st opens) result stands }
-        ensures judged_in_range { IfOk result (JudgedInRange line) }
+        ensures track { IfOk result (λ m. (track_of m).0 ≡ 0) }
     {
         match self {
             LinesJudged::Unbegun => Ok(LinesJudged::Running(LinesAbove {
                 track: Track(0),
                 line: 0,
-                printed: 0,
-                sum: 0,
+                remaining: Some(0),
                 lowest: Row(0),
                 last: 0,
                 breach: None,
@@ -158,9 +144,8 @@ impl LinesJudged {
         track: Track,
         printed: usize,
     ) -> Result<LinesJudged, usize>
-        requires { tracks ≤ 128 }
         ensures keeps_step { (job : Job) (st : PassState) (stands : List ℕ) → job.board.tracks ≡ tracks → KeepsState job st self stands → KeepsStep job (pass_line job line st (Tree.track track.0 printed)) result stands }
-        ensures judged_in_range { IfOk result (JudgedInRange line) }
+        ensures track { IfOk result (λ m. ((track_of m).0 ≡ track.0) × (track.0 ≤ tracks)) }
     {
         let LinesJudged::Running(above) = self else {
             return Err(line);
@@ -172,12 +157,26 @@ impl LinesJudged {
         Ok(LinesJudged::Running(LinesAbove {
             track,
             line,
-            printed,
-            sum: 0,
+            remaining: Some(printed),
             lowest: Row(0),
             last: above.last,
             breach: None,
         }))
+    }
+
+    // What is kept of the lines above, where a loose line or the closing line can stand below them and the last track is not broken.
+    fn ended(self, tracks: usize, line: usize) -> Result<LinesAbove, usize>
+        ensures running { IfOk result (λ j. (self ≡ Running j) × (eqb j.track.0 tracks ≡ true) × (broken_track j ≡ None)) }
+        ensures keeps_step { IfErr result (λ l. (job : Job) (st : PassState) (x : Line) (stands : List ℕ) → is_end_line x ≡ true → job.board.tracks ≡ tracks → KeepsState job st self stands → KeepsStep job (pass_line job line st x) (Err l) stands) }
+    {
+        let LinesJudged::Running(above) = self else {
+            return Err(line);
+        };
+        if !above.is_end_turn(tracks) {
+            return Err(above.closed(line));
+        }
+        above.settled()?;
+        Ok(above)
     }
 
     // What a loose line leads to, where `index` is the index of the net with its number, if a net has it.
@@ -189,18 +188,11 @@ impl LinesJudged {
         index: Option<usize>,
         stands: &mut [usize; 512],
     ) -> Result<LinesJudged, usize>
-        requires line_in_range { LineInRange line self }
-        requires index_range { IfSome index (λ i. i < 512) }
+        requires { IfSome index (λ i. i < 512) }
         ensures keeps_step { (job : Job) (st : PassState) → AcceptedJob job → job.board.tracks ≡ tracks → index ≡ position_numbered number job.nets → KeepsState job st self stands.old → KeepsStep job (pass_line job line st (loose number)) result stands.new }
-        ensures judged_in_range { IfOk result (JudgedInRange line) }
+        ensures track { IfOk result (λ m. track_of m ≡ track_of self) }
     {
-        let LinesJudged::Running(above) = self else {
-            return Err(line);
-        };
-        if !above.is_end_turn(tracks) {
-            return Err(above.closed(line));
-        }
-        above.settled()?;
+        let above = self.ended(tracks, line)?;
         let Some(index) = index else {
             return Err(line);
         };
@@ -224,15 +216,9 @@ impl LinesJudged {
     ) -> Result<LinesJudged, usize>
         requires { count ≤ 512 }
         ensures keeps_step { (job : Job) (st : PassState) → AcceptedJob job → job.board.tracks ≡ tracks → length job.nets ≡ count → KeepsState job st self stands.now → KeepsStep job (pass_line job line st closes) result stands.now }
-        ensures judged_in_range { IfOk result (JudgedInRange line) }
+        ensures track { IfOk result (λ m. (track_of m).0 ≡ 0) }
     {
-        let LinesJudged::Running(above) = self else {
-            return Err(line);
-        };
-        if !above.is_end_turn(tracks) {
-            return Err(above.closed(line));
-        }
-        above.settled()?;
+        let above = self.ended(tracks, line)?;
         if !all_lined(stands, count) {
             return Err(line);
         }

@@ -1,17 +1,15 @@
 // The nets of a job by their numbers.
 ghost use Rattle.std.specs.Prelude.{◌≡◌, ◌==◌, map, ◌≤◌, ◌<◌, take, position, IfSome};
-ghost use Rattle.board.specs.Stored.{job_of, AcceptedStored};
 ghost use Rattle.candidates.specs.Placed.{padded};
 
-use board::StoredJob;
+use board::Job;
 
 // The numbers of the job's nets, by index.
-pub fn numbers_of(job: &StoredJob) -> [usize; 512]
-    requires { AcceptedStored job.now }
-    ensures { result ≡ padded 0 (map (λ n. n.number) (job_of job.now).nets) }
+pub fn numbers_of(job: &Job) -> [usize; 512]
+    ensures { result ≡ padded 0 (map (λ n. n.number) job.now.nets) }
 {
     let mut numbers = [0usize; 512];
-    for (i, net) in job.nets[..job.nnets].iter().enumerate() {
+    for (i, net) in job.nets().iter().enumerate() {
         numbers[i] = net.number;
     }
     numbers

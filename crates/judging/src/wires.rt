@@ -3,17 +3,16 @@ ghost use Rattle.std.specs.Prelude.{◌≡◌, List, ℕ, ◌+◌, ◌≤◌, �
 ghost use Rattle.board.specs.Job.{Job};
 ghost use Rattle.board.specs.Length.{extra};
 ghost use Rattle.board.specs.Placement.{placement_at};
-ghost use Rattle.board.specs.Accepted.{BoardInRange, AcceptedNet, AcceptedJob};
+ghost use Rattle.board.specs.Accepted.{AcceptedJob};
 ghost use Rattle.blockmap.specs.Clear.{all_unset};
 ghost use Rattle.layout.specs.Tree.{Wire};
 ghost use Rattle.sound.specs.Wires.{weight_of};
 ghost use Rattle.drc.specs.Pass.{Summary, add_wire, breach_after};
-ghost use Rattle.judging.specs.Judged.{KeepsSummary, JudgedInRange, LineInRange};
-ghost use Rattle.judging.specs.declared.LinesJudged.TheVariants.{Running};
-ghost use Rattle.judging.specs.Values.{is_allowed, ready_at, is_next_at, NetIs, NetFits, MapOf};
+ghost use Rattle.judging.specs.Judged.{KeepsSummary};
+ghost use Rattle.judging.specs.Values.{is_allowed, ready_at, is_next_at, remaining_after, NetIs, MapOf};
 
 use crate::{LinesAbove, WireDrawn};
-use board::{Board, Net, Row, Shape, Track};
+use board::{BoardNet, Row, Shape, Track};
 
 // Whether none of the `rows` rows from `top` on is blocked.
 pub fn rows_clear(words: &[u64; 16], top: Row, rows: usize) -> bool
@@ -25,14 +24,12 @@ pub fn rows_clear(words: &[u64; 16], top: Row, rows: usize) -> bool
 
 // Whether the length of a net in a shape is from its min to its max.
 #[tactic(auto, unfolding(crate::specs::Values::is_allowed))]
-pub fn is_allowed(board: Board, net: Net, shape: Shape) -> bool
-    requires board_in_range { BoardInRange board }
-    requires accepted_net { AcceptedNet board net }
+pub fn is_allowed(net: BoardNet, shape: Shape) -> bool
     requires shape_bound { extra shape ≤ 2048 }
-    ensures { result ≡ is_allowed board net shape }
+    ensures { result ≡ is_allowed net shape }
 {
-    let length = board::length_of(board, net, shape);
-    net.min <= length && length <= net.max
+    let length = net.length_of(shape);
+    net.net.min <= length && length <= net.net.max
 }
 
 // Whether the net that precedes a net, if one does, has its line on an earlier track.
@@ -58,36 +55,40 @@ fn breach_after(breach: Option<usize>, passed: bool, line: usize) -> Option<usiz
     }
 }
 
+// What remains of a printed sum behind one more wire, if the wires don't add up to more.
+fn remaining_after(remaining: Option<usize>, weight: usize) -> Option<usize>
+    ensures { result ≡ remaining_after remaining weight }
+{
+    remaining?.checked_sub(weight)
+}
+
 impl LinesAbove {
     // Whether a wire that draws its net may stand below the lines above.
     #[tactic(auto, unfolding(crate::specs::Values::is_next_at))]
     pub fn may_stand<'a>(
         self,
-        board: Board,
         wire: WireDrawn,
         words: &'a [u64; 16],
         stands: &'a [usize; 512],
     ) -> bool
-        requires { NetFits board wire }
-        ensures { result ≡ is_next_at board words.now stands.now wire self }
+        ensures { result ≡ is_next_at words.now stands.now wire self }
     {
         let found = wire.found;
-        is_allowed(board, found.net, wire.shape)
-            && rows_clear(words, wire.top, board::covered(found.net, wire.shape))
+        let wired = wire.wired;
+        is_allowed(found.net, wired.shape)
+            && rows_clear(words, wired.top, found.net.net.covered(wired.shape))
             && stands[found.index] == 0
             && is_ready(found.before, stands, self.track)
-            && self.lowest.0 < wire.top.0
+            && self.lowest.0 < wired.top.0
     }
 
     // What is kept behind a wire that draws no placement of its net, where a wire can stand: it is broken, and counts by its number.
     pub fn add_undrawn(self, line: usize, weight: usize) -> LinesAbove
-        requires line_in_range { LineInRange line (Running self) }
-        requires weight_bound { weight ≤ 4096 }
         ensures keeps_summary { (job : Job) (s : Summary) (w : Wire) (before after : List ℕ) → weight_of job w.number ≡ weight → KeepsSummary job s self before → KeepsSummary job (add_wire job line w None s) result after }
-        ensures judged_in_range { JudgedInRange line (Running result) }
+        ensures track { result.track ≡ self.track }
     {
         LinesAbove {
-            sum: self.sum + weight,
+            remaining: remaining_after(self.remaining, weight),
             breach: breach_after(self.breach, false, line),
             ..self
         }
@@ -96,24 +97,22 @@ impl LinesAbove {
     // What is kept behind a wire that draws its net, where a wire can stand: it counts, broken or not.
     pub fn add_drawn(
         self,
-        board: Board,
         wire: WireDrawn,
         words: &[u64; 16],
         stands: &mut [usize; 512],
         line: usize,
     ) -> LinesAbove
-        requires line_in_range { LineInRange line (Running self) }
-        requires net_fits { NetFits board wire }
-        ensures keeps_summary { (job : Job) (s : Summary) (w : Wire) → AcceptedJob job → job.board ≡ board → NetIs job wire.found → wire.found.net.number ≡ w.number → MapOf job self.track.0 words.now → 1 ≤ self.track.0 → KeepsSummary job s self stands.old → KeepsSummary job (add_wire job line w (Some (placement_at wire.found.net wire.shape wire.top.0)) s) result stands.new }
-        ensures judged_in_range { JudgedInRange line (Running result) }
+        ensures keeps_summary { (job : Job) (s : Summary) (w : Wire) → AcceptedJob job → NetIs job wire.found → wire.found.net.net.number ≡ w.number → MapOf job self.track.0 words.now → 1 ≤ self.track.0 → KeepsSummary job s self stands.old → KeepsSummary job (add_wire job line w (Some (placement_at wire.found.net.net wire.wired.shape wire.wired.top.0)) s) result stands.new }
+        ensures track { result.track ≡ self.track }
     {
         let found = wire.found;
-        let passed = self.may_stand(board, wire, words, stands);
+        let wired = wire.wired;
+        let passed = self.may_stand(wire, words, stands);
         stands[found.index] = self.track.0;
-        let rows = board::covered(found.net, wire.shape);
+        let rows = found.net.net.covered(wired.shape);
         LinesAbove {
-            sum: self.sum + found.net.weight,
-            lowest: Row(wire.top.0 + rows - 1),
+            remaining: remaining_after(self.remaining, found.net.net.weight),
+            lowest: Row(wired.top.0 + rows - 1),
             breach: breach_after(self.breach, passed, line),
             ..self
         }

@@ -1,44 +1,37 @@
 -- The words of the two formats by their place in their table. Document 01, "Text of a job": five words open a form.
 use Rattle.std.specs.Prelude.{cond, List, [], ◌∷◌, ℕ, suc, get_or, Option, None, Some}
-use Rattle.text.specs.Bytes.{same}
+use Rattle.text.specs.Bytes.{bytes, same}
 use Rattle.keywords.specs.declared.Vocabulary.{Vocabulary}
 use Rattle.keywords.specs.declared.Vocabulary.TheVariants.{Job, Layout}
 
--- board
+-- the words, byte by byte
+
 abbrev pub board_word : List ℕ
-board_word = 98 ∷ 111 ∷ 97 ∷ 114 ∷ 100 ∷ []
+board_word = bytes "board"
 
--- rows
 abbrev pub rows_word : List ℕ
-rows_word = 114 ∷ 111 ∷ 119 ∷ 115 ∷ []
+rows_word = bytes "rows"
 
--- tracks
 abbrev pub tracks_word : List ℕ
-tracks_word = 116 ∷ 114 ∷ 97 ∷ 99 ∷ 107 ∷ 115 ∷ []
+tracks_word = bytes "tracks"
 
--- net
 abbrev pub net_word : List ℕ
-net_word = 110 ∷ 101 ∷ 116 ∷ []
+net_word = bytes "net"
 
--- block
 abbrev pub block_word : List ℕ
-block_word = 98 ∷ 108 ∷ 111 ∷ 99 ∷ 107 ∷ []
+block_word = bytes "block"
 
--- layout
 abbrev pub layout_word : List ℕ
-layout_word = 108 ∷ 97 ∷ 121 ∷ 111 ∷ 117 ∷ 116 ∷ []
+layout_word = bytes "layout"
 
--- track
 abbrev pub track_word : List ℕ
-track_word = 116 ∷ 114 ∷ 97 ∷ 99 ∷ 107 ∷ []
+track_word = bytes "track"
 
--- wire
 abbrev pub wire_word : List ℕ
-wire_word = 119 ∷ 105 ∷ 114 ∷ 101 ∷ []
+wire_word = bytes "wire"
 
--- loose
 abbrev pub loose_word : List ℕ
-loose_word = 108 ∷ 111 ∷ 111 ∷ 115 ∷ 101 ∷ []
+loose_word = bytes "loose"
 
 -- the words that open a form of a job, and those that open a line of a layout
 abbrev pub words : Vocabulary → List (List ℕ)

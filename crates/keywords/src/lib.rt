@@ -35,7 +35,7 @@ const LAYOUT_WORDS: [Keyword; 4] = [
 ];
 
 // How many words there are.
-fn word_count(v: Vocabulary) -> usize
+pub fn word_count(v: Vocabulary) -> usize
     ensures { result ≡ length (words v) }
 {
     match v {

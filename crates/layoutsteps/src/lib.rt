@@ -1,22 +1,22 @@
 // The step over a line of a layout text: the line is read at its place, its net is looked up, and what it leads to is worked out.
 #![tactic(auto)]
 
-ghost use Rattle.std.specs.Prelude.{◌≡◌, ◌≤◌, length, Option, IfOk, IfSome, Some};
-ghost use Rattle.board.specs.Job.{Job};
-ghost use Rattle.board.specs.Accepted.{AcceptedJob};
+mod tables;
+
+ghost use Rattle.std.specs.Prelude.{◌≡◌, ◌≤◌, max, Option, IfOk, IfSome, Some};
 ghost use Rattle.layout.specs.Tree.{Wire, Line, wire};
 ghost use Rattle.layout.specs.ReadBack.{read_line};
 ghost use Rattle.drc.specs.Pass.{PassState, pass_line, pass_step};
-ghost use Rattle.judging.specs.Judged.{KeepsState, KeepsStep, JudgedInRange, LineInRange};
+ghost use Rattle.judging.specs.Judged.{KeepsState, KeepsStep};
 ghost use Rattle.judging.specs.Values.{track_of, MapOf};
 ghost use Rattle.layoutsteps.specs.LayoutSteps.{layout_step, form_number, LineIs};
-ghost use Rattle.layoutsteps.specs.Found.{net_of_line, FoundFits, LineOfWire, LineOfForm, FoundFor};
+ghost use Rattle.layoutsteps.specs.Found.{LineOfWire, LineOfForm, FoundFor};
 
-use board::{Board, Net, Track};
-use drawnwires::DrawnPlace;
+use board::{Job, Track};
 use judging::{LinesJudged, NetFound, WireDrawn};
 use layoutforms::LayoutForm;
 use lines::Place;
+pub use tables::NetTables;
 
 // A line of a text: its form, if it is one of a layout; its first byte and the one after its last; and the place behind it.
 #[derive(Clone, Copy)]
@@ -58,30 +58,9 @@ fn form_number(form: Option<LayoutForm>) -> Option<usize>
     }
 }
 
-// Looks up the net of a line of a form among the job's nets, by its number: in their numbers and the indexes of the nets that precede them,
-// 512 where none does.
-#[tactic(auto, unfolding(crate::specs::Found::net_in, crate::specs::Found::net_of_line))]
-pub fn find_net<'a>(
-    nets: &[Net],
-    numbers: &'a [usize; 512],
-    before: &'a [Option<usize>; 512],
-    form: Option<LayoutForm>,
-) -> Option<NetFound>
-    requires { length nets.now ≤ 512 }
-    ensures { result ≡ net_of_line nets.now numbers.now before.now (form_number form) }
-{
-    let number = form_number(form)?;
-    let index = judging::nets::net_index(numbers, nets.len(), number)?;
-    Some(NetFound {
-        index,
-        net: nets[index],
-        before: before[index],
-    })
-}
-
 // What a wire line leads to, where `found` is the net of its number, if a net has it.
 fn take_wire(
-    board: Board,
+    job: &Job,
     found: Option<NetFound>,
     words: &[u64; 16],
     stands: &mut [usize; 512],
@@ -89,12 +68,12 @@ fn take_wire(
     line: usize,
     s: &[u8],
 ) -> Result<LinesJudged, usize>
-    requires line_in_range { LineInRange line m }
-    requires found_fits { FoundFits board found }
+    requires found_on_board { IfSome found (λ n. n.net.board ≡ job.now.board) }
     requires line_of_wire { LineOfWire found s.now }
-    ensures keeps_step { (job : Job) (st : PassState) (w : Wire) → AcceptedJob job → job.board ≡ board → FoundFor job w.number found → read_line s.now ≡ Some (wire w) → MapOf job (track_of m).0 words.now → KeepsState job st m stands.old → KeepsStep job (pass_line job line st (wire w)) result stands.new }
-    ensures judged_in_range { IfOk result (JudgedInRange line) }
+    ensures keeps_step { (st : PassState) (w : Wire) → FoundFor job.now w.number found → read_line s.now ≡ Some (wire w) → MapOf job.now (track_of m).0 words.now → KeepsState job.now st m stands.old → KeepsStep job.now (pass_line job.now line st (wire w)) result stands.new }
+    ensures track { IfOk result (λ n. track_of n ≡ track_of m) }
 {
+    let board = job.board();
     let LinesJudged::Running(above) = m else {
         return Err(line);
     };
@@ -104,20 +83,16 @@ fn take_wire(
     let Some(found) = found else {
         return Ok(LinesJudged::Running(above.add_undrawn(line, 0)));
     };
-    let behind = match drawnwires::drawn_place(board, found.net, above.track, s) {
-        Some(DrawnPlace { top, shape }) => {
-            let wire = WireDrawn { found, top, shape };
-            above.add_drawn(board, wire, words, stands, line)
-        }
-        None => above.add_undrawn(line, found.net.weight),
+    let behind = match drawnwires::drawn_place(found.net, above.track, s) {
+        Some(wired) => above.add_drawn(WireDrawn { found, wired }, words, stands, line),
+        None => above.add_undrawn(line, found.net.net.weight),
     };
     Ok(LinesJudged::Running(behind))
 }
 
-// What a line leads to, where the job has `count` nets and s is the line, without its byte 10.
+// What a line leads to, where s is the line, without its byte 10.
 pub fn take_line(
-    board: Board,
-    count: usize,
+    job: &Job,
     found: Option<NetFound>,
     words: &[u64; 16],
     stands: &mut [usize; 512],
@@ -126,23 +101,23 @@ pub fn take_line(
     form: Option<LayoutForm>,
     s: &[u8],
 ) -> Result<LinesJudged, usize>
-    requires line_in_range { LineInRange line m }
-    requires found_fits { FoundFits board found }
-    requires count_bound { (count ≤ 512) × LineOfForm found form s.now }
-    ensures keeps_step { (job : Job) (st : PassState) (x : Option Line) → AcceptedJob job → job.board ≡ board → length job.nets ≡ count → IfSome (form_number form) (λ k. FoundFor job k found) → LineIs s.now x form → MapOf job (track_of m).0 words.now → KeepsState job st m stands.old → KeepsStep job (pass_step job line st x) result stands.new }
-    ensures judged_in_range { IfOk result (JudgedInRange line) }
+    requires found_on_board { IfSome found (λ n. n.net.board ≡ job.now.board) }
+    requires line_of_form { LineOfForm found form s.now }
+    ensures keeps_step { (st : PassState) (x : Option Line) → IfSome (form_number form) (λ k. FoundFor job.now k found) → LineIs s.now x form → MapOf job.now (track_of m).0 words.now → KeepsState job.now st m stands.old → KeepsStep job.now (pass_step job.now line st x) result stands.new }
+    ensures track { IfOk result (λ n. (track_of n).0 ≤ max job.now.board.tracks (track_of m).0) }
 {
     let Some(form) = form else {
         return Err(m.closed(line));
     };
+    let board = job.board();
     match form {
         LayoutForm::Opening => m.take_opening(line),
         LayoutForm::Track { track, sum } => m.take_track(board.tracks, line, Track(track), sum),
-        LayoutForm::Wire { number: _ } => take_wire(board, found, words, stands, m, line, s),
+        LayoutForm::Wire { number: _ } => take_wire(job, found, words, stands, m, line, s),
         LayoutForm::Loose { number } => {
             let index = found.map(|net| net.index);
             m.take_loose(board.tracks, line, number, index, stands)
         }
-        LayoutForm::Closing => m.take_closing(board.tracks, line, stands, count),
+        LayoutForm::Closing => m.take_closing(board.tracks, line, stands, job.nets().len()),
     }
 }

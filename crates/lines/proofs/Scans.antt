@@ -6,22 +6,11 @@ use mathlib.Core.List.{List, [], ◌∷◌}
 use Prim.Native.Nat.{ℕ, zero, suc, ◌+◌, ◌-◌, ◌≤◌, ◌<◌}
 use native.Mathlib.Omega.{arith}
 use lib.ListN.{length, get_or, take, drop, length-drop}
-use lib.Seq.{get_or-drop, take_all}
+use lib.Seq.{get_or-drop}
 use Rattle.lists.specs.Lists.{all_of}
 use Rattle.lists.proofs.Cases.{by_test}
 use Rattle.lines.specs.Places.{until, scan}
 use Rattle.lines.specs.Scanned.{Scanned}
-
--- what holds of the bytes of the rest of a text holds of those of the text
-
-rest_at : (P : ℕ → Type 0) (s : List ℕ) (from i : ℕ) → P (get_or (drop from s) i 0) → P (get_or s (from + i) 0)
-rest_at P s from i h = rw get_or-drop at h
-
-pub rest_lent : (P : ℕ → Type 0) (s : List ℕ) (from i : ℕ) → P (get_or (take (length s - from) (drop from s)) i 0) → P (get_or s (from + i) 0)
-rest_lent P s from i h = rest_at P s from i (rw (take_all (length s - from) (drop from s) (omega (arith, length-drop from s))) at h)
-
-pub rest_before : (P : ℕ → Type 0) (s : List ℕ) (from n : ℕ) → ((k : ℕ) → k < n → P (get_or (drop from s) k 0)) → (k : ℕ) → from ≤ k → k < from + n → P (get_or s k 0)
-rest_before P s from n h k a b = let e : from + (k - from) ≡ k = omega arith in rw e at (rest_at P s from (k - from) (h (k - from) (omega arith)))
 
 -- a scan that found r: the definition finds the same, where the test that scanned is f
 

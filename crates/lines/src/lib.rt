@@ -37,12 +37,11 @@ pub fn scan_to<F: Fn(u8) -> bool>(s: &[u8], from: usize, stops: F) -> usize
     requires callable { F.IsAlwaysCallable stops }
     ensures { Scanned (F.post stops) s.now from result }
 {
-    for (i, b) in s[from..].iter().enumerate() {
-        if stops(*b) {
-            return from + i;
-        }
+    let mut i = from;
+    while i < s.len() && !stops(s[i]) {
+        i += 1;
     }
-    s.len()
+    i
 }
 
 // The place at which the word that stands at `from` ends: at a space, at a bracket, or at the end of the line.

@@ -1,10 +1,10 @@
-// What the lines of both formats share when they are written: how an inner line begins, the first line, the last.
+// What the lines of both formats share when they are written: how an inner line begins, one that has one number, the first line, the last.
 #![tactic(auto)]
 
 ghost use Rattle.std.specs.Prelude.{◌+◌, ◌≤◌, ◌<◌, length};
-ghost use Rattle.text.specs.Written.{WrittenAt};
+ghost use Rattle.text.specs.Written.{Written, WrittenAt};
 ghost use Rattle.keywords.specs.Keywords.{words};
-ghost use Rattle.linewriter.specs.LineText.{head_text, opening_text, closing_text};
+ghost use Rattle.linewriter.specs.LineText.{head_text, number_text, opening_text, closing_text};
 
 use keywords::Vocabulary;
 
@@ -16,6 +16,16 @@ pub fn put_head(out: &mut [u8], at: usize, v: Vocabulary, i: usize, number: usiz
     let a = text::put_bytes_at(out, at, b" (");
     let b = keywords::put_word_at(out, a, v, i);
     text::put_spaced(out, b, number)
+}
+
+// Writes an inner line with one number, " (word number)", with word i of the table v, at the start of out, and returns the bytes used.
+pub fn number_line(out: &mut [u8], v: Vocabulary, i: usize, number: usize) -> usize
+    requires i_bound { i < length (words v) }
+    requires line_in_bounds { length (number_text v i number) ≤ length out.old }
+    ensures { Written (number_text v i number) out.old out.new result }
+{
+    let a = put_head(out, 0, v, i, number);
+    text::put_bytes_at(out, a, b")\n")
 }
 
 // Writes the first line of a text, "(word", from the place `at` on, and returns the next place.

@@ -1,9 +1,8 @@
--- The plan of a track by value, row by row: place j − 1 holds the index of the net chosen for row j, and no net has the index that stands
--- for none. Assumes nothing.
+-- The plan of a track by value, row by row: place j − 1 holds the index of the net chosen for row j. Assumes nothing.
 use Prim.Native.Nat.{ℕ, zero, suc, ◌+◌, ◌-◌, ◌≤◌, ◌<◌}
 use mathlib.Core.Path.{◌≡◌, refl, sym, ap, ◌∙◌}
 use mathlib.Core.Logic.{⊎_elim}
-use Rattle.std.specs.Prelude.{None, Some}
+use Rattle.std.specs.Prelude.{Option, None, Some, unwrap_or}
 use mathlib.Core.List.Memᴰ
 use mathlib.Core.List.{List, [], ◌∷◌, Memᴰ}
 use native.Mathlib.Omega.{arith}
@@ -17,7 +16,7 @@ use Rattle.board.specs.declared.Net.{Net}
 use Rattle.board.specs.Job.{Job}
 use Rattle.packing.specs.Walk.{choice_at}
 use Rattle.std.specs.List.{position_from}
-use Rattle.choice.specs.TrackPlans.{no_choice, index_of, choices_of, track_plan_of}
+use Rattle.choice.specs.TrackPlans.{index_of, choices_of, track_plan_of}
 
 -- has the number of net n
 abbrev numbered : Net → Net → Bool
@@ -50,15 +49,19 @@ index_from_lem (x ∷ xs) n i rise m =
     ))
     (Memᴰ.cases_cons m)
 
+-- where a net stands in the job
+pub place : Job → Net → ℕ
+place job n = unwrap_or (index_of job (Some n)) 0
+
 pub index_of_lem : (job : Job) (n : Net) → EachPair (λ a b. a.number < b.number) job.nets → Memᴰ n job.nets →
-    IndexOf job.nets n (index_of job (Some n))
-unfolding index_of
+    (index_of job (Some n) ≡ Some (place job n)) × IndexOf job.nets n (place job n)
+unfolding index_of place index_from_lem
 index_of_lem job n rise m =
     let found = index_from_lem job.nets n 0 rise m in
     let e : 0 + found.0 ≡ found.0 = omega arith in
-    rw (found.1, e) found.2
+    rw (found.1, e) (refl, found.2)
 
-pub index_none : (job : Job) → index_of job None ≡ no_choice
+pub index_none : (job : Job) → index_of job None ≡ None
 unfolding index_of
 index_none job = refl
 
@@ -68,14 +71,14 @@ module _ (job : Job) (earlier : List ℕ) (t : ℕ) where
   choices_length zero = refl
   choices_length (suc k) = ap suc (choices_length k)
 
-  choices_at : (k i d : ℕ) → i < k → get_or (choices_of job earlier t k) i d ≡ index_of job (choice_at job earlier t (job.board.rows - (k - suc i)))
+  choices_at : (k i : ℕ) (d : Option ℕ) → i < k → get_or (choices_of job earlier t k) i d ≡ index_of job (choice_at job earlier t (job.board.rows - (k - suc i)))
   unfolding choices_of
   choices_at zero i d h = absurd (omega arith)
   choices_at (suc k) zero d h = let e : k ≡ suc k - 1 = omega arith in ap (λ x. index_of job (choice_at job earlier t (job.board.rows - x))) e
   choices_at (suc k) (suc i) d h = let e : k - suc i ≡ suc k - suc (suc i) = omega arith in
       choices_at k i d (omega arith) ∙ ap (λ x. index_of job (choice_at job earlier t (job.board.rows - x))) e
 
-  pub choice_row : (j d : ℕ) → 1 ≤ j → j ≤ job.board.rows → get_or (track_plan_of job earlier t).choice (j - 1) d ≡ index_of job (choice_at job earlier t j)
+  pub choice_row : (j : ℕ) (d : Option ℕ) → 1 ≤ j → j ≤ job.board.rows → get_or (track_plan_of job earlier t).choice (j - 1) d ≡ index_of job (choice_at job earlier t j)
   unfolding track_plan_of
   choice_row j d l h =
       let e : job.board.rows - (job.board.rows - suc (j - 1)) ≡ j = omega arith in

@@ -15,7 +15,8 @@ use Rattle.board.specs.Stored.{no_net}
 use Rattle.board.specs.Unbeaten.{FilledTrack, numbers_on}
 use Rattle.board.specs.Tests.{is_on}
 use Rattle.board.specs.Accepted.{AcceptedJob}
-use Rattle.candidates.specs.declared.Candidates.{Candidates}
+use Rattle.candidates.specs.declared.Candidate.{Candidate}
+use Rattle.candidates.specs.SlotArrays.{Candidates}
 use Rattle.candidates.specs.Placed.{Placed}
 use Rattle.candidates.specs.Gathered.{Gathered, GatheredFrom}
 use Rattle.planner.specs.declared.JobPlan.{JobPlan}
@@ -48,9 +49,9 @@ placed_first job t =
           sym (ap is_some at ∙ sym (not-not (is_some (stand_from 1 trs n.number))) ∙ ap not (on_stand 1 n trs) ∙ not-not (is_on (numbers_on trs) n));
     }
 
-pub gathered_first : (job : Job) (t : ℕ) (p : JobPlan) (before after : List ℕ) (c : Candidates) → OnTurn job t p →
-    GatheredFrom job p.nets t before c after → Gathered job (on_first job (t - 1)) t c after
-gathered_first job t p before after c o g =
+pub gathered_first : (job : Job) (t : ℕ) (p : JobPlan) (old : List Candidate) (before after : List ℕ) (c : Candidates) → OnTurn job t p →
+    GatheredFrom job p.nets t old before c after → Gathered job (on_first job (t - 1)) t c after
+gathered_first job t p old before after c o g =
     g.gathered (on_first job (t - 1)) (rw o.so_far (placed_first job (t - 1)))
 
 -- ---- before track 1 nothing is planned

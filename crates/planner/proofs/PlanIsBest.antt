@@ -19,7 +19,7 @@ use Rattle.planning.specs.Loose.{without, loose_of}
 use Rattle.planning.proofs.PlanUnbeaten.{all_allowed, plan_unbeaten}
 use Rattle.planning.proofs.Balance.{sums_add_up}
 use Rattle.std.specs.Prelude.{Option, None}
-use Rattle.candidates.specs.declared.Wired.{Wired}
+use Rattle.board.specs.declared.Wired.{Wired}
 use Rattle.planner.specs.JobPlans.{net_plan_of, stored_plan, job_plan_of}
 use Rattle.planner.specs.Progressed.{on_first}
 use Rattle.planner.specs.Chosen.{loose_from, loose_nets, BestPlan}

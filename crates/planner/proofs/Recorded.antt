@@ -23,11 +23,10 @@ use Rattle.packing.specs.Walk.{wires_of}
 use Rattle.planning.specs.Plan.{filled_track}
 use Rattle.planning.proofs.PlanUnbeaten.{all_allowed, track_optimal}
 use Rattle.planning.proofs.Balance.{once}
-use Rattle.choice.specs.TrackPlans.{index_of}
-use Rattle.candidates.specs.declared.Wired.{Wired}
+use Rattle.board.specs.declared.Wired.{Wired}
 use Rattle.planner.specs.JobPlans.{wire_with, wired, stand_from, stored_plan}
 use Rattle.planner.specs.Progressed.{first_tracks, on_first, progress_to}
-use Rattle.planner.proofs.ChoiceRows.{IndexOf, index_of_lem}
+use Rattle.planner.proofs.ChoiceRows.{IndexOf, place, index_of_lem}
 use Rattle.planner.proofs.Marks.{marked, with_wires, marked_all}
 use Rattle.planner.proofs.Stands.{wire_found, stand_kept, stand_new}
 use Rattle.planning.proofs.FirstTracks.{first_length, first_next}
@@ -37,10 +36,6 @@ sums_put : (trs : List FilledTrack) (tr : FilledTrack) (room : ℕ) →
     set (map (λ x. x.sum) trs ++ replicate (suc room) 0) (length trs) tr.sum ≡ map (λ x. x.sum) (trs ++ (tr ∷ [])) ++ replicate room 0
 sums_put [] tr room = refl
 sums_put (x ∷ xs) tr room = ap (λ l. x.sum ∷ l) (sums_put xs tr room)
-
--- where a net's wire is stored: at the net's index
-abbrev pub place : Job → Net → ℕ
-place job n = index_of job (Some n)
 
 module _ (job : Job) (a : AcceptedJob job) where
   -- the wires of a track: a rival sequence, of nets that differ and stand on no earlier track
@@ -53,7 +48,7 @@ module _ (job : Job) (a : AcceptedJob job) where
     wires_rival = (track_optimal job (all_allowed job a) earlier t).rival
 
     pub wires_indexed : Each (λ p. IndexOf job.nets p.net (place job p.net)) ws
-    wires_indexed = Each-map ws (λ p v. index_of_lem job p.net a.numbers_rise v.of_job) wires_rival.placeable
+    wires_indexed = Each-map ws (λ p v. (index_of_lem job p.net a.numbers_rise v.of_job).1) wires_rival.placeable
 
     pub wires_differ : EachPair (λ p q. p.net.number ≡ q.net.number → ⊥) ws
     wires_differ =

@@ -23,7 +23,7 @@ use Rattle.board.specs.Unbeaten.{FilledTrack, empty_track}
 use Rattle.board.specs.Accepted.{AcceptedJob}
 use Rattle.packing.specs.Walk.{wires_of}
 use Rattle.planning.specs.Plan.{filled_track, plan_of}
-use Rattle.candidates.specs.declared.Wired.{Wired}
+use Rattle.board.specs.declared.Wired.{Wired}
 use Rattle.planner.specs.JobPlans.{wire_with, wired, stand_from, net_plan_of, stored_plan, job_plan_of}
 use Rattle.planner.specs.Progressed.{on_first}
 use Rattle.planner.specs.Chosen.{stands_at, row_of, last_rows, tracks_from, tracks_of}

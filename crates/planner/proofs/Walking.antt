@@ -2,17 +2,15 @@
 use Prim.Native.Nat.{ℕ, suc, ◌+◌, ◌-◌, ◌≤◌, ◌<◌}
 use mathlib.Core.Path.{◌≡◌, refl, sym, ap, ap₂, ◌∙◌}
 use Rattle.std.specs.Prelude.{None, Some}
+use Rattle.std.proofs.lemmas.Option.{none-some, same_Some}
 use mathlib.Core.List.{List, []}
 use native.Mathlib.Omega.{arith}
-use lib.ListN.{length, get_or, set, take, length-take}
-use lib.Seq.{get_or-take}
+use lib.ListN.{length, get_or, set}
 use Rattle.lists.proofs.Cases.{by_option}
 use Rattle.board.specs.declared.Net.{Net}
-use Rattle.board.specs.declared.StoredJob.{StoredJob}
 use Rattle.board.specs.declared.Shape.{Shape}
 use Rattle.board.specs.Length.{shortest, needed}
 use Rattle.board.specs.Job.{Job}
-use Rattle.board.specs.Stored.{job_of}
 use Rattle.board.specs.Placement.{Placement}
 use Rattle.board.specs.Accepted.{AcceptedJob, AcceptedNet}
 use Rattle.packing.specs.Walk.{choice_at, walk_from, wires_of}
@@ -20,70 +18,63 @@ use Rattle.packing.proofs.Fitting.{fits_within}
 use Rattle.packing.proofs.WalkIsRival.{choice_some}
 use Rattle.packing.proofs.ByRow.{walk_end, walk_none, walk_some}
 use Rattle.choice.specs.declared.TrackPlan.{TrackPlan}
-use Rattle.choice.specs.TrackPlans.{no_choice, index_of, track_plan_of}
+use Rattle.choice.specs.TrackPlans.{index_of, track_plan_of}
 use Rattle.planner.specs.declared.JobPlan.{JobPlan}
 use Rattle.planner.specs.Progressed.{OnTurn, on_first, progress_to, track_plan}
-use Rattle.planner.proofs.ChoiceRows.{IndexOf, index_of_lem, index_none, choice_row}
+use Rattle.planner.proofs.ChoiceRows.{place, index_of_lem, index_none, choice_row}
 use Rattle.planner.proofs.Marks.{marked}
 use Rattle.planner.specs.JobPlans.{wired}
-use Rattle.planner.proofs.Recorded.{place, nets_next, sums_next}
+use Rattle.planner.proofs.Recorded.{nets_next, sums_next}
 
 -- net n, with index i, is chosen for row j of track t, with the nets of the tracks before it held
-pub record Taken (s : StoredJob) (t j i : ℕ) : Type 0 where
+pub record Taken (job : Job) (t j i : ℕ) : Type 0 where
   pub net : Net
-  pub chosen : choice_at (job_of s) (on_first (job_of s) (t - 1)) t j ≡ Some net
-  pub index : i ≡ place (job_of s) net
-  pub below : i < length (job_of s).nets
-  pub stored : (d : Net) → get_or s.nets i d ≡ net
-  pub accepted : AcceptedNet s.board net
-  pub room : j + needed s.board net ≤ s.board.rows + 1
-
-stored_there : (s : StoredJob) (n : Net) (i : ℕ) → IndexOf (job_of s).nets n i → (d : Net) → get_or s.nets i d ≡ n
-stored_there s n i r d =
-    let b : i < length (take s.nnets s.nets) = r.below in
-    sym (get_or-take s.nnets s.nets i d (omega (arith, length-take s.nnets s.nets))) ∙ r.there d
+  pub chosen : choice_at job (on_first job (t - 1)) t j ≡ Some net
+  pub index : i ≡ place job net
+  pub below : i < length job.nets
+  pub stored : (d : Net) → get_or job.nets i d ≡ net
+  pub accepted : AcceptedNet job.board net
+  pub room : j + needed job.board net ≤ job.board.rows + 1
 
 -- ---- the choice for row j by value
-module _ (s : StoredJob) (a : AcceptedJob (job_of s)) (t : ℕ) (plan : TrackPlan) (o : plan ≡ track_plan (job_of s) t) where
-  abbrev job : Job
-  job = job_of s
-
+module _ (job : Job) (a : AcceptedJob job) (t : ℕ) (plan : TrackPlan) (o : plan ≡ track_plan job t) where
   abbrev earlier : List ℕ
   earlier = on_first job (t - 1)
 
-  module _ (j : ℕ) (low : 1 ≤ j) (high : j ≤ s.board.rows) where
-    at_is : (d : ℕ) → get_or plan.choice (j - 1) d ≡ index_of job (choice_at job earlier t j)
-    at_is d = ap (λ (x : TrackPlan). get_or x.choice (j - 1) d) o ∙ choice_row job earlier t j d low high
+  module _ (j : ℕ) (low : 1 ≤ j) (high : j ≤ job.board.rows) where
+    at_is : get_or plan.choice (j - 1) None ≡ index_of job (choice_at job earlier t j)
+    at_is = ap (λ (x : TrackPlan). get_or x.choice (j - 1) None) o ∙ choice_row job earlier t j None low high
 
-    taken : (d : ℕ) (n : Net) → choice_at job earlier t j ≡ Some n → Taken s t j (get_or plan.choice (j - 1) d)
+    taken : (n : Net) → choice_at job earlier t j ≡ Some n → (get_or plan.choice (j - 1) None ≡ Some (place job n)) × Taken job t j (place job n)
     unfolding choice_at
-    taken d n e =
+    taken n e =
         let c = choice_some job earlier t (job.board.rows - j) n e in
         let r : job.board.rows - (job.board.rows - j) ≡ j = omega arith in
         let w = fits_within job earlier t n (job.board.rows - (job.board.rows - j)) c.fit in
-        let q : get_or plan.choice (j - 1) d ≡ place job n = at_is d ∙ ap (index_of job) e in
-        let k : IndexOf job.nets n (get_or plan.choice (j - 1) d) = rw q (index_of_lem job n a.numbers_rise c.listed) in
-        record {
-          net = n;
-          chosen = e;
-          index = q;
-          below = k.below;
-          stored = stored_there s n (get_or plan.choice (j - 1) d) k;
-          accepted = a.nets_each n c.listed;
-          room = omega arith;
-        }
+        let k = index_of_lem job n a.numbers_rise c.listed in (
+          at_is ∙ ap (index_of job) e ∙ k.0,
+          record {
+            net = n;
+            chosen = e;
+            index = refl;
+            below = k.1.below;
+            stored = k.1.there;
+            accepted = a.nets_each n c.listed;
+            room = omega arith;
+          },
+        )
 
-    pub row_none : (d : ℕ) → get_or plan.choice (j - 1) d ≡ no_choice → choice_at job earlier t j ≡ None
-    row_none d h =
+    pub row_none : ((i : ℕ) → get_or plan.choice (j - 1) None ≡ Some i → ⊥) → choice_at job earlier t j ≡ None
+    row_none h =
         by_option (choice_at job earlier t j)
         (λ e. e)
-        (λ n e. absurd (omega (arith, (taken d n e).below, a.nets_count)))
+        (λ n e. absurd (h _ (taken n e).0))
 
-    pub row_some : (d : ℕ) → (get_or plan.choice (j - 1) d ≡ no_choice → ⊥) → Taken s t j (get_or plan.choice (j - 1) d)
-    row_some d h =
+    pub row_some : (i : ℕ) → get_or plan.choice (j - 1) None ≡ Some i → Taken job t j i
+    row_some i h =
         by_option (choice_at job earlier t j)
-        (λ e. absurd (h (at_is d ∙ ap (index_of job) e ∙ index_none job)))
-        (λ n e. taken d n e)
+        (λ e. absurd (none-some _ (sym (at_is ∙ ap (index_of job) e ∙ index_none job) ∙ h)))
+        (λ n e. let k = taken n e in rw (← same_Some (place job n) i (sym k.0 ∙ h)) k.1)
 
 -- ---- what the loop keeps: the wires from row j on, stored over what is there now, give what all the wires give
 pub record Walking (job : Job) (t : ℕ) (start now : JobPlan) (j : ℕ) : Type 0 where
@@ -107,15 +98,15 @@ module _ (job : Job) (t : ℕ) where
       record { low = omega (arith, w.low); high = omega arith; nets_on = rw s w.nets_on; sums_on = w.sums_on }
 
 -- after the net of a row is stored the walk goes on below it
-pub walking_some : (s : StoredJob) (t : ℕ) (p q : JobPlan) (j i : ℕ) (k : Taken s t j i) (shape : Shape) (rows : ℕ) →
-    Walking (job_of s) t p q j → j ≤ s.board.rows → shape ≡ shortest s.board k.net → rows ≡ needed s.board k.net →
-    Walking (job_of s) t p
+pub walking_some : (job : Job) (t : ℕ) (p q : JobPlan) (j i : ℕ) (k : Taken job t j i) (shape : Shape) (rows : ℕ) →
+    Walking job t p q j → j ≤ job.board.rows → shape ≡ shortest job.board k.net → rows ≡ needed job.board k.net →
+    Walking job t p
     (record {
       nets = set q.nets i (Some (record { track = record { 0 = t }; top = record { 0 = j }; shape = shape }));
       sums = q.sums;
     }) (j + rows)
-walking_some s t p q j i k shape rows w h e f =
-    let x = walk_some (job_of s) (on_first (job_of s) (t - 1)) t j k.net w.low h k.chosen in
+walking_some job t p q j i k shape rows w h e f =
+    let x = walk_some job (on_first job (t - 1)) t j k.net w.low h k.chosen in
     rw (f, e, k.index)
     (record {
       low = omega (arith, w.low);

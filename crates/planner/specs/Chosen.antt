@@ -9,7 +9,7 @@ use Rattle.board.specs.Placement.{Placement}
 use Rattle.board.specs.Weight.{weight_sum}
 use Rattle.board.specs.Unbeaten.{FilledTrack, empty_track, Unbeaten}
 use Rattle.planning.specs.Loose.{sum_of_tracks}
-use Rattle.candidates.specs.declared.Wired.{Wired}
+use Rattle.board.specs.declared.Wired.{Wired}
 use Rattle.planner.specs.declared.JobPlan.{JobPlan}
 
 -- the placement of a net that stands on track t with its top at a row, and none otherwise

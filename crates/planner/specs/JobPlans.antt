@@ -6,7 +6,7 @@ use Rattle.board.specs.Job.{Job}
 use Rattle.board.specs.Placement.{Placement}
 use Rattle.board.specs.Unbeaten.{FilledTrack}
 use Rattle.planning.specs.Plan.{plan_of}
-use Rattle.candidates.specs.declared.Wired.{Wired}
+use Rattle.board.specs.declared.Wired.{Wired}
 use Rattle.planner.specs.declared.JobPlan.{JobPlan}
 
 -- the wire of the net with number k, if it has one

@@ -2,15 +2,12 @@
 #![tactic(auto)]
 
 ghost use Rattle.std.specs.Prelude.{◌≡◌, ◌*◌, ◌≤◌, length};
-ghost use Rattle.board.specs.Accepted.{AcceptedJob};
-ghost use Rattle.board.specs.Stored.{job_of, AcceptedStored};
 ghost use Rattle.planner.specs.Chosen.{BestPlan};
 ghost use Rattle.planner.specs.JobPlans.{job_plan_of};
 ghost use Rattle.planner.specs.Progressed.{OnTurn, progress_to, track_plan};
 
-use board::{Row, StoredJob, Track, needed, shortest};
-pub use candidates::Wired;
-use candidates::preceding;
+use board::{Job, Row, Track, Wired};
+use candidates::{Candidates, preceding};
 use choice::{TrackPlan, fill};
 use gathering::gather;
 
@@ -24,23 +21,19 @@ pub struct JobPlan {
 
 // A track recorded in p from its plan, where p has the tracks before it: the walk from row 1 takes the net chosen for a row, and goes on
 // below it.
-pub fn record_track(p: &mut JobPlan, job: &StoredJob, plan: &TrackPlan, track: Track)
-    requires accepted_job { AcceptedJob (job_of job.now) }
-    requires on_turn { OnTurn (job_of job.now) track.0 p.old }
-    requires plan_value { plan.now ≡ track_plan (job_of job.now) track.0 }
-    ensures { p.new ≡ progress_to (job_of job.now) track.0 }
+pub fn record_track(p: &mut JobPlan, job: &Job, plan: &TrackPlan, track: Track)
+    requires on_turn { OnTurn job.now track.0 p.old }
+    requires plan_value { plan.now ≡ track_plan job.now track.0 }
+    ensures { p.new ≡ progress_to job.now track.0 }
 {
+    let board = job.board();
     p.sums[track.0 - 1] = plan.sum;
-    let board = job.board;
     let mut j = 1;
     while j <= board.rows {
-        let c = plan.choice[j - 1];
-        if c == 512 {
-            j += 1;
-        } else {
-            let net = job.nets[c];
-            let shape = shortest(board, net);
-            let bottom = j + needed(board, net) - 1;
+        if let Some(c) = plan.choice[j - 1] {
+            let net = job.net(c);
+            let shape = net.shortest();
+            let bottom = j + net.needed() - 1;
             let wired = Wired {
                 track,
                 top: Row(j),
@@ -48,49 +41,51 @@ pub fn record_track(p: &mut JobPlan, job: &StoredJob, plan: &TrackPlan, track: T
             };
             p.nets[c] = Some(wired);
             j = bottom + 1;
+        } else {
+            j += 1;
         }
     }
 }
 
-// The plan of a job: its tracks filled in order 1 to K, with flags for all its nets. Before track 1 every net is loose.
-fn plan_tracks(job: &StoredJob, flags: &mut [u8]) -> JobPlan
-    requires accepted_stored { AcceptedStored job.now }
-    requires flags_room { job.now.nnets * 1024 ≤ length flags.old }
-    ensures answer { result ≡ job_plan_of (job_of job.now) }
-    ensures best { BestPlan (job_of job.now) result }
+// The plan of a job: its tracks filled in order 1 to K, with flags for all its nets. Before track 1 every net is loose. The slots of the
+// candidates are made once, and each track's are put over those of the track before.
+fn plan_tracks(job: &Job, flags: &mut [u8]) -> JobPlan
+    requires { length job.now.nets * 1024 ≤ length flags.old }
+    ensures answer { result ≡ job_plan_of job.now }
+    ensures best { BestPlan job.now result }
 {
+    let board = job.board();
     let before = preceding(job);
     let mut p = JobPlan {
         nets: [None; 512],
         sums: [0; 128],
     };
-    for t in 1..=job.board.tracks {
-        let c = gather(job, &before, &p.nets, Track(t), flags);
-        let plan = fill(&c, flags, job.board.rows);
+    let mut found = Candidates::none();
+    for t in 1..=board.tracks {
+        gather(job, &before, &p.nets, Track(t), &mut found, flags);
+        let plan = fill(&found, flags, board.rows);
         record_track(&mut p, job, &plan, Track(t));
     }
     p
 }
 
 // The plan of a job, with so many bytes of flags. What the flags cost to clear would be most of the time of a small job.
-fn plan_with<const BYTES: usize>(job: &StoredJob) -> JobPlan
-    requires accepted_stored { AcceptedStored job.now }
-    requires flags_room { job.now.nnets * 1024 ≤ BYTES }
+fn plan_with<const BYTES: usize>(job: &Job) -> JobPlan
+    requires flags_room { length job.now.nets * 1024 ≤ BYTES }
     requires few_bytes { BYTES ≤ 524288 }
-    ensures answer { result ≡ job_plan_of (job_of job.now) }
-    ensures best { BestPlan (job_of job.now) result }
+    ensures answer { result ≡ job_plan_of job.now }
+    ensures best { BestPlan job.now result }
 {
     let mut flags = [0u8; BYTES];
     plan_tracks(job, &mut flags)
 }
 
 // The plan of a job. No track of it is beaten, and each wire is at its shortest length.
-pub fn plan_job(job: &StoredJob) -> JobPlan
-    requires { AcceptedStored job.now }
-    ensures answer { result ≡ job_plan_of (job_of job.now) }
-    ensures best { BestPlan (job_of job.now) result }
+pub fn plan_job(job: &Job) -> JobPlan
+    ensures answer { result ≡ job_plan_of job.now }
+    ensures best { BestPlan job.now result }
 {
-    if job.nnets <= 64 {
+    if job.nets().len() <= 64 {
         plan_with::<65536>(job)
     } else {
         plan_with::<524288>(job)

@@ -1,2 +1,3 @@
 -- What the programs print that write a text for a job.
 pub mod Printed
+pub mod Promised

@@ -14,13 +14,14 @@ ghost use Rattle.house.specs.Promises.{IsFixed, ReadsBack, OneText, FixedAgain};
 ghost use Rattle.printing.specs.Printed.{printed_text, RefusalFits, Reported};
 
 use answers::TextRefusal;
+use files::buffer::TextBuffer;
 
-// A text to print: the first `used` bytes. There is room for every text, so what is printed is never cut.
-#[derive(Clone, Copy)]
-pub struct Printed {
-    pub bytes: [u8; 64000],
-    pub used: usize,
-}
+mod operation;
+
+pub use operation::{House, Operation, Route};
+
+// A text to print. There is room for every text, so what is printed is never cut.
+pub type Printed = TextBuffer<64000>;
 
 // Makes of the buffer after an operation what is printed, and returns its length: the text that stands there, or the line of the refusal.
 fn put_report(out: &mut [u8], answer: Result<usize, TextRefusal>) -> usize
@@ -33,6 +34,17 @@ fn put_report(out: &mut [u8], answer: Result<usize, TextRefusal>) -> usize
     }
 }
 
+// Writes the text of a job, and gives what the program prints for it: that text, or the line of the refusal.
+pub fn print_text<T: Operation>(job: &[u8]) -> Printed
+    ensures printed { Written (printed_text T.text (read_job job.now)) (replicate 64000 0) result.bytes result.used }
+    ensures promised { OfAccepted (λ j. T.Promised j (take result.used result.bytes)) (read_job job.now) }
+{
+    let mut bytes = [0u8; 64000];
+    let answer = T::put(job, &mut bytes);
+    let used = put_report(&mut bytes, answer);
+    TextBuffer { bytes, used }
+}
+
 // Routes a job, and gives what the program prints for it: the layout, or the line of the refusal.
 pub fn print_route(job: &[u8]) -> Printed
     ensures printed { Written (printed_text route_text (read_job job.now)) (replicate 64000 0) result.bytes result.used }
@@ -40,10 +52,7 @@ pub fn print_route(job: &[u8]) -> Printed
     ensures sound { OfAccepted (λ j. Sound j (take result.used result.bytes)) (read_job job.now) }
     ensures unbeaten { OfAccepted (λ j. UnbeatenText j (take result.used result.bytes)) (read_job job.now) }
 {
-    let mut bytes = [0u8; 64000];
-    let answer = router::route(job, &mut bytes);
-    let used = put_report(&mut bytes, answer);
-    Printed { bytes, used }
+    print_text::<Route>(job)
 }
 
 // Writes the fixed text of a job, and gives what the program prints for it: that text, or the line of the refusal.
@@ -54,8 +63,5 @@ pub fn print_house(job: &[u8]) -> Printed
     ensures one_text { OfAccepted (λ j. OneText j (take result.used result.bytes)) (read_job job.now) }
     ensures again { OfAccepted (λ j. FixedAgain (take result.used result.bytes)) (read_job job.now) }
 {
-    let mut bytes = [0u8; 64000];
-    let answer = housestyle::house(job, &mut bytes);
-    let used = put_report(&mut bytes, answer);
-    Printed { bytes, used }
+    print_text::<House>(job)
 }

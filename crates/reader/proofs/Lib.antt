@@ -1,3 +1,4 @@
 -- The laws of read.
 pub mod Reading
+pub mod RefusalLines
 pub mod Reports

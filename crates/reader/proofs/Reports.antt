@@ -1,7 +1,7 @@
 -- The line that a reading prints: its parts, its length, and that it is the one of the reading. A refusal names no line behind
 -- 64,001. Assumes nothing.
 use Rattle.std.specs.Prelude.{Ok, Err}
-use mathlib.Core.Path.{◌≡◌, refl, sym, ap, ◌∙◌}
+use mathlib.Core.Path.{◌≡◌, refl, ap, ◌∙◌}
 use mathlib.Core.Bool.{Bool}
 use mathlib.Core.List.{List, [], ◌∷◌, ◌++◌, append_assoc}
 use Prim.Native.Nat.{ℕ, suc, ◌+◌, ◌≤◌}
@@ -21,7 +21,7 @@ use Rattle.jobfile.specs.Read.{State, start, opened, sized, filled, closed, Next
 use Rattle.jobfile.specs.Answers.{number_of, line_of, answer_of}
 use Rattle.jobfile.proofs.RefusalNumbers.{number_below}
 use Rattle.jobfile.proofs.Returned.{given_read, given_refused}
-use Rattle.jobsteps.proofs.States.{SizedState, LeadsOn, step_sound}
+use Rattle.reader.proofs.RefusalLines.{OnLine, step_on}
 use Rattle.reader.specs.Reports.{refused_text, accepted_text, report_text}
 
 -- ---- the line that a refusal names
@@ -38,17 +38,17 @@ ended_line k (sized h) = omega arith
 ended_line k (filled job) = omega arith
 ended_line k (closed job) = tt
 
-follow_line : (j k : ℕ) (x : Next) (f : State → Read) → LeadsOn j x → j ≤ k → ((s : State) → SizedState s → Bounded k (f s)) → Bounded k (follow x f)
+follow_line : (j k : ℕ) (x : Next) (f : State → Read) → OnLine j x → j ≤ k → ((s : State) → Bounded k (f s)) → Bounded k (follow x f)
 unfolding Bounded follow
-follow_line j k (go s) f g h b = b s g
+follow_line j k (go s) f g h b = b s
 follow_line j k (stop o) f g h b = omega (arith, g)
 
-from_line : (j k : ℕ) (s : State) (ls : List (List ℕ)) → SizedState s → j + length ls ≡ k → Bounded k (read_from j s ls)
+from_line : (j k : ℕ) (s : State) (ls : List (List ℕ)) → j + length ls ≡ k → Bounded k (read_from j s ls)
 unfolding read_from
-from_line j k s [] g e = let q : j ≡ k = omega arith in rw (← q) (ended_line j s)
-from_line j k s (l ∷ ls) g e =
-    follow_line j k (step j s (read_form l)) (λ t. read_from (suc j) t ls) (step_sound j s (read_form l) g) (omega arith)
-    (λ t h. from_line (suc j) k t ls h (omega arith))
+from_line j k s [] e = let q : j ≡ k = omega arith in rw (← q) (ended_line j s)
+from_line j k s (l ∷ ls) e =
+    follow_line j k (step j s (read_form l)) (λ t. read_from (suc j) t ls) (step_on j s (read_form l)) (omega arith)
+    (λ t. from_line (suc j) k t ls (omega arith))
 
 -- a text has no more lines than bytes
 joined_few : (b : ℕ) (ps : List (List ℕ)) (k : ℕ) → length ps ≤ k → length (joined b ps) ≤ suc k
@@ -76,7 +76,7 @@ read_bounded text =
     let n = length (lines text) in
     rw e
     (bounded_more (1 + n) 64001 (read_from 1 start (lines text)) (omega (arith, pieces_few is_end text, leb-true (length text) 64000 e))
-    (from_line 1 (1 + n) start (lines text) tt refl)))
+    (from_line 1 (1 + n) start (lines text) refl)))
     (λ e. rw e (omega arith))
 
 -- ---- the text of a refusal

@@ -4,10 +4,8 @@ use Prim.Native.Nat.{ℕ, ◌≤◌}
 use mathlib.Core.Path.{◌≡◌, refl, ap, ◌∙◌}
 use mathlib.Core.List.{List}
 use lib.ListN.{length, take}
-use Rattle.board.specs.declared.StoredJob.{StoredJob}
 use Rattle.board.specs.Job.{Job}
 use Rattle.board.specs.Accepted.{AcceptedJob}
-use Rattle.board.specs.Stored.{job_of, AcceptedStored}
 use Rattle.text.specs.Written.{Written}
 use Rattle.text.proofs.Writing.{start_written}
 use Rattle.jobfile.specs.Read.{read_job}
@@ -56,16 +54,16 @@ promised file before g =
     }
 
 -- the plan of an accepted job can be drawn, its text is the one that route writes, and that is short
-module _ (stored : StoredJob) (a : AcceptedStored stored) (plan : JobPlan) (p : plan ≡ job_plan_of (job_of stored)) where
-  plan_text_lem : plan_text (job_of stored) plan ≡ route_text (job_of stored)
-  plan_text_lem = ap (plan_text (job_of stored)) p ∙ plan_is_route (job_of stored) a.accepted
+module _ (job : Job) (a : AcceptedJob job) (plan : JobPlan) (p : plan ≡ job_plan_of job) where
+  plan_text_lem : plan_text job plan ≡ route_text job
+  plan_text_lem = ap (plan_text job) p ∙ plan_is_route job a
 
-  pub plan_can : DrawablePlan (job_of stored) plan
-  plan_can = rw p (plan_drawable (job_of stored) a.accepted)
+  pub plan_can : DrawablePlan job plan
+  plan_can = rw p (plan_drawable job a)
 
-  pub plan_short : length (plan_text (job_of stored) plan) ≤ 64000
-  plan_short = rw plan_text_lem (route_length (job_of stored) a.accepted)
+  pub plan_short : length (plan_text job plan) ≤ 64000
+  plan_short = rw plan_text_lem (route_length job a)
 
   -- what was drawn is the text that route writes
-  pub drawn_text : {blank drawn : List ℕ} {n : ℕ} → Written (plan_text (job_of stored) plan) blank drawn n → take n drawn ≡ route_text (job_of stored)
+  pub drawn_text : {blank drawn : List ℕ} {n : ℕ} → Written (plan_text job plan) blank drawn n → take n drawn ≡ route_text job
   drawn_text d = start_written d ∙ plan_text_lem

@@ -89,7 +89,7 @@ pub fn read_number(s: &[u8], most: usize) -> Option<usize>
     let mut v = 0;
     for b in s {
         match b {
-            b'0'..=b'9' => v = v * 10 + usize::from(b - b'0'),
+            b'0'..=b'9' => v = v * 10 + (usize::from(*b) - usize::from(b'0')),
             _ => return None,
         }
     }

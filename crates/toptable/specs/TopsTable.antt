@@ -6,7 +6,7 @@ use Rattle.board.specs.Job.{Job}
 use Rattle.board.specs.Accepted.{BoardInRange, AcceptedNet}
 use Rattle.board.specs.Stored.{no_net}
 use Rattle.candidates.specs.declared.NetTops.{NetTops}
-use Rattle.candidates.specs.declared.Wired.{Wired}
+use Rattle.board.specs.declared.Wired.{Wired}
 use Rattle.candidates.specs.Gathered.{tops_of}
 use Rattle.candidates.specs.Placed.{preceding_of, eligible_at}
 

@@ -2,42 +2,35 @@
 #![tactic(auto)]
 
 ghost use Rattle.std.specs.Prelude.{◌≡◌, length};
-ghost use Rattle.board.specs.Stored.{job_of, AcceptedStored};
-ghost use Rattle.board.specs.Accepted.{BoardInRange, AcceptedNet};
+ghost use Rattle.board.specs.Accepted.{AcceptedNet};
 ghost use Rattle.candidates.specs.Placed.{preceding_of};
 ghost use Rattle.candidates.specs.Gathered.{tops_of};
 ghost use Rattle.toptable.specs.TopsTable.{tops_if, FirstTops, NetsLent, TableOf};
 
-use board::{Board, Net, StoredJob};
-use candidates::{NetTops, Wired, is_eligible};
+use board::{Board, BoardNet, Job, Net, Wired};
+use candidates::{NetTops, is_eligible};
 
 // What the choice needs of a net.
-pub fn tops_of(board: Board, net: Net) -> NetTops
-    requires board_in_range { BoardInRange board }
-    requires accepted_net { AcceptedNet board net }
-    ensures { result ≡ tops_of board net }
+pub fn tops_of(net: BoardNet) -> NetTops
+    requires { AcceptedNet net.board net.net }
+    ensures { result ≡ tops_of net.board net.net }
 {
-    let shape = board::shortest(board, net);
+    let shape = net.shortest();
     NetTops {
-        need: board::needed(board, net),
-        weight: net.weight,
-        first: board::first_top(net, shape),
-        last: board::last_top(board, net, shape),
+        need: net.needed(),
+        weight: net.net.weight,
+        first: net.net.first_top(shape),
+        last: net.last_top(shape),
     }
 }
 
 // What the choice needs of a net, if the net is eligible.
 #[tactic(auto, unfolding(crate::specs::TopsTable::tops_if))]
-fn tops_if(eligible: bool, board: Board, net: Net) -> Option<NetTops>
-    requires board_in_range { BoardInRange board }
-    requires accepted_net { AcceptedNet board net }
-    ensures { result ≡ tops_if eligible board net }
+fn tops_if(eligible: bool, net: BoardNet) -> Option<NetTops>
+    requires { AcceptedNet net.board net.net }
+    ensures { result ≡ tops_if eligible net.board net.net }
 {
-    if eligible {
-        Some(tops_of(board, net))
-    } else {
-        None
-    }
+    if eligible { Some(tops_of(net)) } else { None }
 }
 
 // The nets of the job, lent as a list of records: each record goes to the placement rule, in its order, and what the choice needs of it
@@ -54,27 +47,20 @@ fn put_all_tops(
 {
     for (i, net) in nets.iter().enumerate() {
         let eligible = is_eligible(before[i], stands, i);
-        table[i] = tops_if(eligible, board, *net);
+        table[i] = tops_if(eligible, BoardNet { board, net: *net });
     }
 }
 
-// The table of a track: for each net of the job what the choice needs of it, if it is eligible. The nets of the job are lent for it.
+// Fills the table of a track: for each net of the job what the choice needs of it, if it is eligible. The nets of the job are lent for it.
 pub fn tops_table(
-    job: &StoredJob,
+    job: &Job,
     before: &[Option<usize>; 512],
     stands: &[Option<Wired>; 512],
-) -> [Option<NetTops>; 512]
-    requires accepted_stored { AcceptedStored job.now }
-    requires before_value { before.now ≡ preceding_of (job_of job.now) }
-    ensures { TableOf (job_of job.now) stands.now result }
+    table: &mut [Option<NetTops>; 512],
+)
+    requires { before.now ≡ preceding_of job.now }
+    ensures { TableOf job.now stands.now table.new }
 {
-    let mut table = [None; 512];
-    put_all_tops(
-        &job.nets[..job.nnets],
-        job.board,
-        before,
-        stands,
-        &mut table,
-    );
-    table
+    let nets = job.nets();
+    put_all_tops(nets, job.board(), before, stands, table);
 }

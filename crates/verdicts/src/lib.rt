@@ -8,15 +8,13 @@ ghost use Rattle.text.specs.Written.{Written};
 ghost use Rattle.verdicts.specs.Verdicts.{broken_text, check_text};
 
 use checker::CheckError;
+use files::buffer::TextBuffer;
 
-// A line to print: the first `used` bytes.
-#[derive(Clone, Copy)]
-pub struct PrintedLine {
-    pub bytes: [u8; 64],
-    pub used: usize,
-}
+// A line to print.
+pub type PrintedLine = TextBuffer<64>;
 
 // Writes the line that a broken layout prints.
+#[tactic(auto, using(crate::proofs::Lines::broken_length, text::proofs::Writing::kept))]
 fn put_broken(out: &mut [u8], line: usize) -> usize
     requires { length (broken_text line) ≤ length out.old }
     ensures { Written (broken_text line) out.old out.new result }
@@ -43,12 +41,12 @@ fn put_verdict(out: &mut [u8], verdict: Result<(), CheckError>) -> usize
 }
 
 // Checks a layout for a job, and gives what the program prints: `(sound)`, `(broken line)` or `(refused number line)`.
+#[tactic(auto, using(files::proofs::Reading::written_prefix))]
 pub fn print_check(job: &[u8], layout: &[u8]) -> PrintedLine
     ensures printed { Written (check_text (check_answer (read_job job.now) layout.now)) (replicate 64 0) result.bytes result.used }
-    ensures within { result.used ≤ length result.bytes }
 {
     let verdict = checker::check(job, layout);
     let mut bytes = [0u8; 64];
     let used = put_verdict(&mut bytes, verdict);
-    PrintedLine { bytes, used }
+    TextBuffer { bytes, used }
 }

@@ -13,12 +13,9 @@ use Rattle.std.specs.Ordering.{nat_cmp, is_lt}
 use Rattle.lists.proofs.Cases.{by_test}
 use Rattle.text.specs.Written.{WrittenAt}
 use Rattle.text.specs.Digits.{digits}
-use Rattle.board.specs.declared.Board.{Board}
-use Rattle.board.specs.declared.Net.{Net}
-use Rattle.board.specs.declared.Row.{Row}
-use Rattle.board.specs.declared.Shape.{Shape}
+use Rattle.board.specs.declared.BoardNet.{BoardNet}
 use Rattle.board.specs.declared.Shape.TheVariants.{Plain, Stretched}
-use Rattle.board.specs.declared.Track.{Track}
+use Rattle.board.specs.declared.Wired.{Wired}
 use Rattle.board.specs.Length.{width, span, extra}
 use Rattle.board.proofs.ShortestShape.{fixed_rows}
 use Rattle.layout.specs.declared.Point.{Point}
@@ -68,26 +65,26 @@ pin_parts l ps = refl
 
 -- ---- the points of a placement by its shape, where the code holds the width w and the rows m between the pins
 
-pub plain_points : (board : Board) (t : Track) (net : Net) (shape : Shape) (top : Row) (w : ℕ) → shape ≡ Plain → w ≡ width board →
-    points_text board t net shape top ≡ pin_text net.left.0 (plain_path (2 * t.0 - 1) w net.left.0 net.right.0)
+pub plain_points : (n : BoardNet) (p : Wired) (w : ℕ) → p.shape ≡ Plain → w ≡ width n.board →
+    points_text n.board p.track n.net p.shape p.top ≡ pin_text n.net.left.0 (plain_path (2 * p.track.0 - 1) w n.net.left.0 n.net.right.0)
 unfolding corners via_column
-plain_points board t net shape top w s e = rw (s, e)
+plain_points n p w s e = rw (s, e)
 
-module _ (board : Board) (t : Track) (net : Net) (shape : Shape) (top : Row) (w m e : ℕ) (s : shape ≡ Stretched e) (low : 1 ≤ t.0)
-    (width_is : w ≡ width board) (span_is : m ≡ span net) where
+module _ (n : BoardNet) (p : Wired) (w m e : ℕ) (s : p.shape ≡ Stretched e) (d : Drawable n.board p.track n.net p.shape p.top)
+    (width_is : w ≡ width n.board) (span_is : m ≡ span n.net) where
   -- the rows of the stretched part: from the top down with L < R, else from the bottom up
-  pub stretched_points : (b : Bool) → ltb net.left.0 net.right.0 ≡ b → points_text board t net shape top ≡
-      pin_text net.left.0 (stretched_path (2 * t.0 - 1) w net.left.0 net.right.0 (cond b top.0 (top.0 + m + e)) (cond b (top.0 + m + e) top.0))
+  pub stretched_points : (b : Bool) → ltb n.net.left.0 n.net.right.0 ≡ b → points_text n.board p.track n.net p.shape p.top ≡
+      pin_text n.net.left.0 (stretched_path (2 * p.track.0 - 1) w n.net.left.0 n.net.right.0 (cond b p.top.0 (p.top.0 + m + e)) (cond b (p.top.0 + m + e) p.top.0))
   unfolding corners via_column wire_column near_row far_row
   stretched_points b l =
-      let c : 2 * t.0 - 1 + 1 ≡ 2 * t.0 = omega arith in
+      let c : 2 * p.track.0 - 1 + 1 ≡ 2 * p.track.0 = omega (arith, d.track_range.0) in
       rw (s, width_is, span_is, l, c)
 
   -- the bottom row is a small number
-  pub bottom_small : Drawable board t net shape top → top.0 + m + e ≤ 6144
-  bottom_small d =
-      let x : extra shape ≡ e = ap extra s in
-      omega (arith, span_is, fixed_rows board net d.net_range, d.board_range, d.stretch_range, d.top_range)
+  pub bottom_small : p.top.0 + m + e ≤ 6144
+  bottom_small =
+      let x : extra p.shape ≡ e = ap extra s in
+      omega (arith, span_is, fixed_rows n.board n.net d.net_range, d.board_range, d.stretch_range, d.top_range)
 
 -- which pin is above, as the order of rows tells it
 below_is : (l r : ℕ) → is_lt (nat_cmp l r) ≡ ltb l r

@@ -6,7 +6,7 @@ ghost use Rattle.text.specs.Written.{WrittenAt};
 ghost use Rattle.layout.specs.Drawing.{at};
 ghost use Rattle.wirepoints.specs.Points.{point_text, path_text, pin_text, plain_path, stretched_path, points_text, Drawable};
 
-use board::{Board, Net, Row, Shape, Track};
+use board::{BoardNet, Row, Shape, Wired};
 use layout::Point;
 
 // The point of a column and a row.
@@ -78,32 +78,25 @@ fn stretched_path(c: usize, w: usize, l: Row, r: Row, u: Row, v: Row) -> [Point;
     ]
 }
 
-// Writes the points of a placement of a net on a track.
-pub fn put_points(
-    out: &mut [u8],
-    at: usize,
-    board: Board,
-    track: Track,
-    net: Net,
-    shape: Shape,
-    top: Row,
-) -> usize
-    requires drawable { Drawable board track net shape top }
-    requires top_in_bounds { at + length (points_text board track net shape top) ≤ length out.old }
-    ensures { WrittenAt at (points_text board track net shape top) out.old out.new result }
+// Writes the points of a net, wired where it stands.
+pub fn put_points(out: &mut [u8], at: usize, net: BoardNet, wired: Wired) -> usize
+    requires drawable { Drawable net.board wired.track net.net wired.shape wired.top }
+    requires top_in_bounds { at + length (points_text net.board wired.track net.net wired.shape wired.top) ≤ length out.old }
+    ensures { WrittenAt at (points_text net.board wired.track net.net wired.shape wired.top) out.old out.new result }
 {
-    let w = board::width(board);
-    let c = 2 * track.0 - 1;
-    match shape {
-        Shape::Plain => put_pin(out, at, net.left, &plain_path(c, w, net.left, net.right)),
+    let w = net.board.width();
+    let c = 2 * wired.track.0 - 1;
+    let (l, r) = (net.net.left, net.net.right);
+    match wired.shape {
+        Shape::Plain => put_pin(out, at, l, &plain_path(c, w, l, r)),
         Shape::Stretched(e) => {
-            let bottom = Row(top.0 + board::span(net) + e);
-            let path = if net.left < net.right {
-                stretched_path(c, w, net.left, net.right, top, bottom)
+            let bottom = Row(wired.top.0 + net.net.span() + e);
+            let path = if l < r {
+                stretched_path(c, w, l, r, wired.top, bottom)
             } else {
-                stretched_path(c, w, net.left, net.right, bottom, top)
+                stretched_path(c, w, l, r, bottom, wired.top)
             };
-            put_pin(out, at, net.left, &path)
+            put_pin(out, at, l, &path)
         }
     }
 }

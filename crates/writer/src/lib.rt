@@ -6,25 +6,18 @@ ghost use Rattle.text.specs.Written.{Written};
 ghost use Rattle.writer.specs.Lines.{wire_line, Drawable, ended_line};
 ghost use Rattle.layout.specs.Tree.{track as track_of, loose as loose_of};
 
-use board::{Board, Net, Row, Shape, Track};
+use board::{BoardNet, Track, Wired};
 use keywords::Vocabulary;
 use wirepoints::put_points;
 
-// Writes the line of a wire.
-pub fn wire_line(
-    out: &mut [u8],
-    board: Board,
-    track: Track,
-    net: Net,
-    shape: Shape,
-    top: Row,
-) -> usize
-    requires drawable { Drawable board track net shape top }
-    requires top_in_bounds { length (wire_line board track net shape top) ≤ length out.old }
-    ensures { Written (wire_line board track net shape top) out.old out.new result }
+// Writes the line of the wire of a net, where it stands.
+pub fn wire_line(out: &mut [u8], net: BoardNet, wired: Wired) -> usize
+    requires drawable { Drawable net.board wired.track net.net wired.shape wired.top }
+    requires top_in_bounds { length (wire_line net.board wired.track net.net wired.shape wired.top) ≤ length out.old }
+    ensures { Written (wire_line net.board wired.track net.net wired.shape wired.top) out.old out.new result }
 {
-    let a = linewriter::put_head(out, 0, Vocabulary::Layout, 2, net.number);
-    let b = put_points(out, a, board, track, net, shape, top);
+    let a = linewriter::put_head(out, 0, Vocabulary::Layout, 2, net.net.number);
+    let b = put_points(out, a, net, wired);
     text::put_bytes_at(out, b, b")\n")
 }
 
@@ -43,6 +36,5 @@ pub fn loose_line(out: &mut [u8], number: usize) -> usize
     requires { length (ended_line (loose_of number)) ≤ length out.old }
     ensures { Written (ended_line (loose_of number)) out.old out.new result }
 {
-    let a = linewriter::put_head(out, 0, Vocabulary::Layout, 3, number);
-    text::put_bytes_at(out, a, b")\n")
+    linewriter::number_line(out, Vocabulary::Layout, 3, number)
 }

@@ -3,9 +3,8 @@ use mathlib.Core.Path.{◌≡◌}
 use mathlib.Core.List.{map}
 use lib.ListN.{take}
 use Rattle.std.specs.Prelude.{None}
-use Rattle.board.specs.Stored.{job_of}
 use Rattle.candidates.specs.Placed.{padded, before_in}
 use Rattle.candidates.proofs.preceding.Given as goal
 
 abbrev pub invariant-loop-i : goal.invariant-loop-i
-invariant-loop-i l = l.before ≡ padded None (map (before_in (job_of l.job).nets) (take l.i (job_of l.job).nets))
+invariant-loop-i l = l.before ≡ padded None (map (before_in l.job.nets) (take l.i l.job.nets))

@@ -1,12 +1,11 @@
 -- `checker::judge_lines` meets its contract: before each turn of the loop the lines that are left decide. Assumes nothing.
 use Prim.Native.Nat.{ℕ, ◌+◌}
-use mathlib.Core.Path.{◌≡◌, refl, sym, ap, subst, ◌∙◌}
+use mathlib.Core.Path.{◌≡◌, sym, ap, subst, ◌∙◌}
 use native.Mathlib.Omega.{arith}
 use borrow.Author.Rules.{rules}
 use Rattle.std.specs.Prelude.{Ok, Err}
 use Rattle.std.proofs.lemmas.Result.{err_from_is_err_and}
 use Rattle.board.specs.declared.Track.{Track}
-use Rattle.board.specs.Stored.{job_of}
 use Rattle.lines.specs.Stepped.{Stepped}
 use Rattle.judging.specs.Judged.{KeepsStep}
 use Rattle.judging.specs.Values.{track_of, MapOf}
@@ -23,28 +22,22 @@ moved_at : (c : In-Some) → Stepped c.args.text.now c.loop-read.place (line_of 
 moved_at c = left_moved _ _ _ _ _ _ c.loop-read.invariant _ c.in-Some.ensures
 
 -- its net
-looked : (c : After-find_net-found) → FoundAt (job_of c.args.job.now) (form_number c.in-Some.read.form) c.find_net-found.result
-looked c =
-    let a = c.args in
-    found_at a.job.now a.numbers.now a.before.now c.requires.net_tables _ c.find_net-found.result c.find_net-found.ensures
+looked : (c : After-find_net-found) → FoundAt c.args.tables.job.now (form_number c.in-Some.read.form) c.find_net-found.result
+looked c = found_at c.args.tables.job.now _ c.find_net-found.result c.find_net-found.ensures
 
 -- what it leads to
-led_at : (c : After-take_line-led) → FoundAt (job_of c.args.job.now) (form_number c.in-Some.read.form) c.find_net-found.result →
-    KeepsStep (job_of c.args.job.now)
-    (pass_step (job_of c.args.job.now) (c.loop-read.place.passed + 1) c.loop-read.invariant.state
+led_at : (c : After-take_line-led) → FoundAt c.args.tables.job.now (form_number c.in-Some.read.form) c.find_net-found.result →
+    KeepsStep c.args.tables.job.now
+    (pass_step c.args.tables.job.now (c.loop-read.place.passed + 1) c.loop-read.invariant.state
     (line_read c.args.text.now c.in-Some.read.from c.in-Some.read.to c.in-Some.read.next.at))
     c.take_line-led.result c.take_line-led.new.stands
 led_at c f =
-    let a = c.args in
     let w = c.loop-read.invariant in
-    let t = c.requires.net_tables.accepted in
-    c.take_line-led.ensures.keeps_step (job_of a.job.now) w.state _ t.accepted refl refl f.of_job
-    (left_line _ _ _ _ _ _ w _ c.in-Some.ensures) w.map w.keeps
+    c.take_line-led.ensures.keeps_step w.state _ f.of_job (left_line _ _ _ _ _ _ w _ c.in-Some.ensures) w.map w.keeps
 
 pub loop-read-init : goal.loop-read-init
 loop-read-init c =
-    let a = c.args in
-    left_start (job_of a.job.now) a.text.now _ _ c.requires.net_tables.accepted.accepted.nets_count c.block_map-map.ensures
+    left_start c.args.tables.job.now c.args.text.now _ _ c.args.tables.nets_count c.block_map-map.ensures
     c.start-place.ensures.0 c.start-place.ensures.1
 
 pub slice_bounds-s-count : goal.slice_bounds-s-count
@@ -62,31 +55,28 @@ slice_bounds-s-end c =
     let here = goal.at.slice_bounds-s-end c in
     let t = moved_at here.In-Some in omega arith
 
-pub take_line-led-requires-clause-found_fits : goal.take_line-led-requires-clause-found_fits
-take_line-led-requires-clause-found_fits c =
-    let here = goal.at.take_line-led-requires-clause-found_fits c in
-    (looked here.After-find_net-found).fits
+pub take_line-led-requires-clause-found_on_board : goal.take_line-led-requires-clause-found_on_board
+take_line-led-requires-clause-found_on_board c =
+    let here = goal.at.take_line-led-requires-clause-found_on_board c in
+    (looked here.After-find_net-found).on_board
 
-pub take_line-led-requires-clause-count_bound : goal.take_line-led-requires-clause-count_bound
-take_line-led-requires-clause-count_bound c =
-    let here = goal.at.take_line-led-requires-clause-count_bound c in (
-      c.requires.net_tables.accepted.accepted.nets_count,
-      record {
-        line = _;
-        line_is = left_line _ _ _ _ _ _ c.loop-read.invariant _ c.in-Some.ensures;
-        number_is = (looked here.After-find_net-found).number_is;
-      },
-    )
+pub take_line-led-requires-clause-line_of_form : goal.take_line-led-requires-clause-line_of_form
+take_line-led-requires-clause-line_of_form c =
+    let here = goal.at.take_line-led-requires-clause-line_of_form c in
+    record {
+      line = _;
+      line_is = left_line _ _ _ _ _ _ c.loop-read.invariant _ c.in-Some.ensures;
+      number_is = (looked here.After-find_net-found).number_is;
+    }
 
 pub returns-in_err-m : goal.returns-in_err-m
 returns-in_err-m c =
     let here = goal.at.returns-in_err-m c in
-    let job = job_of c.args.job.now in
     let broken : (l : ℕ) × (c.take_line-led.result ≡ Err l) × (c.in_err-m.field-0.0 ≡ Broken l) = search rules in
     let led = rw broken.1 at (led_at here.After-take_line-led (looked here.After-find_net-found)) in
     let p = err_from_is_err_and c.from_residual.result c.from_residual.ensures.1 in
     rw (p.1, p.2, broken.2)
-    (answer_broken job c.requires.net_tables.accepted.accepted _ broken.0 (left_broken _ _ _ _ _ _ c.loop-read.invariant _ c.in-Some.ensures broken.0 _ led))
+    (answer_broken c.args.tables.job.now _ broken.0 (left_broken _ _ _ _ _ _ c.loop-read.invariant _ c.in-Some.ensures broken.0 _ led))
 
 pub loop-read-smaller-then-track-above : goal.loop-read-smaller-then-track-above
 loop-read-smaller-then-track-above c =
@@ -100,8 +90,7 @@ loop-read-preserved-then-track-above c =
     let went : c.take_line-led.result ≡ Ok c.in_ok-m.m = search rules in
     left_more _ _ _ _ _ _ c.loop-read.invariant _ c.in-Some.ensures _ _ _
     (rw went at (led_at here.After-take_line-led (looked here.After-find_net-found)))
-    (rw went at c.take_line-led.ensures.judged_in_range)
-    (subst (λ (t : Track). MapOf (job_of c.args.job.now) t.0 c.block_map-map-then-track-above.result.words) c.track-track.ensures c.block_map-map-then-track-above.ensures)
+    (subst (λ (t : Track). MapOf c.args.tables.job.now t.0 c.block_map-map-then-track-above.result.words) c.track-track.ensures c.block_map-map-then-track-above.ensures)
 
 pub loop-read-smaller : goal.loop-read-smaller
 loop-read-smaller c =
@@ -117,12 +106,10 @@ loop-read-preserved c =
     let same : (track_of c.loop-read.m).0 ≡ (track_of c.in_ok-m.m).0 = ap (λ (t : Track). t.0) (sym c.track-above.ensures) ∙ sym c.if-track-above.false ∙ ap (λ (t : Track). t.0) c.track-track.ensures in
     left_more _ _ _ _ _ _ w _ c.in-Some.ensures _ _ _
     (rw went at (led_at here.After-take_line-led (looked here.After-find_net-found)))
-    (rw went at c.take_line-led.ensures.judged_in_range)
-    (subst (λ (t : ℕ). MapOf (job_of c.args.job.now) t c.loop-read.map.words) same w.map)
+    (subst (λ (t : ℕ). MapOf c.args.tables.job.now t c.loop-read.map.words) same w.map)
 
 pub returns : goal.returns
 returns c =
-    let job = job_of c.args.job.now in
     let w = c.loop-read.invariant in
-    c.finish.ensures job w.state _ w.keeps ∙
-    answer_end job c.requires.net_tables.accepted.accepted _ _ (left_over _ _ _ _ _ _ w (sym c.in_default.is ∙ c.line_at.ensures))
+    c.finish.ensures c.args.tables.job.now w.state _ w.keeps ∙
+    answer_end c.args.tables.job.now _ _ (left_over _ _ _ _ _ _ w (sym c.in_default.is ∙ c.line_at.ensures))

@@ -16,11 +16,11 @@ loop-j-init c =
     }
 
 -- the listed candidates are those of a band in which the row lies
-row_in_band : (c : Joined-j-start) → BandAt c.args.c.now c.if-j-start.listed c.if-j-start.start (c.loop-j.j - 1)
+row_in_band : (c : Joined-j-start) → BandAt c.args.c.now c.if-j-start.band c.if-j-start.start (c.loop-j.j - 1)
 row_in_band c =
     elim c.if-j-start.branch [
-      | then-j-start w ↦ band_entered (c.loop-j.j - 1) c.loop-j.listed.index c.loop-j.invariant.size w.start-is w.listed-is w.band_start-from.ensures.1 w.list_band.ensures
-      | else-j-start w ↦ band_kept w.start-is w.listed-is (c.loop-j.invariant.band w.if-j-start.false)
+      | then-j-start w ↦ band_entered (c.loop-j.j - 1) c.loop-j.band.slots c.loop-j.invariant.size w.start-is w.band-is w.band_start-from.ensures.1 w.list_band.ensures
+      | else-j-start w ↦ band_kept w.start-is w.band-is (c.loop-j.invariant.band w.if-j-start.false)
     ]
 
 pub row_pick-p-requires : goal.row_pick-p-requires
@@ -33,7 +33,7 @@ loop-j-preserved c =
     let now = c.loop-j in
     let band = row_in_band (goal.at.loop-j-preserved c).Joined-j-start in
     let pick = band_row _ _ _ c.requires now.best (now.j - 1) _ _ c.row_pick-p.result band c.row_pick-p.ensures in record {
-      rows_left = rw c.unwrap_or.ensures (rows_left_again _ _ _ c.requires now.best now.choice (now.j - 1) c.row_pick-p.result (omega arith) now.invariant.rows_left pick);
+      rows_left = rows_left_again _ _ _ c.requires now.best now.choice (now.j - 1) c.row_pick-p.result (omega arith) now.invariant.rows_left pick;
       size = band_size _ _ _ c.requires (now.j - 1) _ _ band;
       band = λ l. band_above (now.j - 1) l band;
     }

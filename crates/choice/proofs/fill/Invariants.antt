@@ -8,6 +8,6 @@ use Rattle.choice.proofs.fill.Given as goal
 abbrev pub invariant-loop-j : goal.invariant-loop-j
 invariant-loop-j l = record {
   rows_left : RowsLeft l.c l.flags l.rows l.best l.choice (l.j - 1);
-  size : length l.listed.index ≡ 512;
-  band : l.start ≤ l.j - 1 → BandAt l.c l.listed l.start (l.j - 1);
+  size : length l.band.slots ≡ 512;
+  band : l.start ≤ l.j - 1 → BandAt l.c l.band l.start (l.j - 1);
 }

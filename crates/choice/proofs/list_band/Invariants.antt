@@ -1,11 +1,7 @@
 -- Before each turn the band is that of the candidates looked at.
 use mathlib.Core.Path.{◌≡◌}
-use lib.ListN.{length}
 use Rattle.choice.specs.Filled.{band_to}
 use Rattle.choice.proofs.list_band.Given as goal
 
 abbrev pub invariant-loop-i : goal.invariant-loop-i
-invariant-loop-i l = record {
-  size : length l.fn.band.index ≡ 512;
-  listed : l.band ≡ band_to l.c l.lo.0 l.hi.0 l.fn.band.index l.i;
-}
+invariant-loop-i l = l.band ≡ band_to l.c l.lo.0 l.hi.0 l.fn.band.slots l.i

@@ -5,34 +5,34 @@ use mathlib.Core.Path.{refl, ◌∙◌}
 use native.Mathlib.Omega.{arith}
 use lib.ListN.{get_or, take}
 use lib.Seq.{get_or-take}
-use Rattle.choice.specs.Filled.{sum_at, pick_among}
+use Rattle.choice.specs.Filled.{sum_at, no_listed, pick_among}
 use Rattle.choice.proofs.Picking.{Room, stands_room, pick_taken, pick_passed}
 use Rattle.choice.proofs.row_pick.Goals.{Then-has_clear_top, then-has_clear_top, else-has_clear_top}
 use Rattle.choice.proofs.row_pick.Goals as goal
 
-pub loop-i-init : goal.loop-i-init
+pub loop-listed-init : goal.loop-listed-init
 unfolding pick_among
-loop-i-init c = refl
+loop-listed-init c = refl
 
-pub loop-i-preserved : goal.loop-i-preserved
+pub loop-listed-preserved : goal.loop-listed-preserved
 unfolding sum_at
-loop-i-preserved c =
+loop-listed-preserved c =
     let a = c.args in
-    let k = c.loop-i.i-index in
+    let k = c.loop-listed.listed-index in
     let h : k < a.band.now.count = omega arith in
-    let at = get_or-take a.band.now.count a.band.now.index k 0 h in
+    let at = get_or-take a.band.now.count a.band.now.slots k no_listed h in
     elim c.if-has_clear_top.branch [
-      | then-has_clear_top w ↦ pick_taken _ _ _ _ _ k _ at c.has_clear_top.ensures c.loop-i.invariant w.if-has_clear_top.true (w.p-is ∙ w.take_better-p.ensures)
-      | else-has_clear_top w ↦ pick_passed _ _ _ _ _ k _ at c.has_clear_top.ensures c.loop-i.invariant w.if-has_clear_top.false w.p-is
+      | then-has_clear_top w ↦ pick_taken _ _ _ _ k _ at c.has_clear_top.ensures c.loop-listed.invariant w.if-has_clear_top.true (w.p-is ∙ w.take_better-p.ensures)
+      | else-has_clear_top w ↦ pick_passed _ _ _ _ k _ at c.has_clear_top.ensures c.loop-listed.invariant w.if-has_clear_top.false w.p-is
     ]
 
 -- the candidate that can stand at the row has room below it
-room : (c : Then-has_clear_top) → Room c.args.c.now c.args.flags.now c.args.best.now c.args.row.0 c.args.band.now c.requires (get_or (take c.args.band.now.count c.args.band.now.index) c.loop-i.i-index 0)
+room : (c : Then-has_clear_top) → Room c.args.flags.now c.args.best.now c.args.row.0 c.args.band.now c.requires (get_or (take c.args.band.now.count c.args.band.now.slots) c.loop-listed.listed-index no_listed)
 room c =
     let a = c.args in
-    let k = c.loop-i.i-index in
+    let k = c.loop-listed.listed-index in
     let h : k < a.band.now.count = omega arith in
-    stands_room _ _ _ _ _ c.requires k _ h (get_or-take a.band.now.count a.band.now.index k 0 h) c.has_clear_top.ensures c.if-has_clear_top.true
+    stands_room _ _ _ _ c.requires k _ h (get_or-take a.band.now.count a.band.now.slots k no_listed h) c.has_clear_top.ensures c.if-has_clear_top.true
 
 pub overflow_add-sum : goal.overflow_add-sum
 overflow_add-sum c = let r = room (goal.at.overflow_add-sum c).Then-has_clear_top in omega arith

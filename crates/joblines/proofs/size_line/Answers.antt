@@ -1,19 +1,9 @@
--- `joblines::size_line` meets its contract: two writes in a row. Assumes nothing.
-use native.Mathlib.Omega.{arith}
-use Rattle.text.proofs.Writing.{lengths, kept_at, chain_at, from_start}
-use Rattle.joblines.proofs.Lines.{size_parts}
+-- `joblines::size_line` meets its contract: the line of one number with the word that is told. Assumes nothing.
+use Rattle.joblines.proofs.Lines.{size_is}
 use Rattle.joblines.proofs.size_line.Goals as goal
 
-pub put_head-a-requires : goal.put_head-a-requires
-put_head-a-requires c = (omega arith, omega (arith, simp lengths at (rw (size_parts c.args.i c.args.number) at c.requires.number_in_bounds)))
-
-pub put_bytes_at-requires : goal.put_bytes_at-requires
-put_bytes_at-requires c =
-    let h = simp lengths at (rw (size_parts c.args.i c.args.number) at c.requires.number_in_bounds) in
-    let w = c.put_head-a.ensures in
-    omega (arith, w.next, kept_at w (omega arith))
+pub number_line-requires-clause-line_in_bounds : goal.number_line-requires-clause-line_in_bounds
+number_line-requires-clause-line_in_bounds c = rw (← size_is c.args.i c.args.number) c.requires.number_in_bounds
 
 pub returns : goal.returns
-returns c =
-    let h = simp lengths at (rw (size_parts c.args.i c.args.number) at c.requires.number_in_bounds) in
-    rw (size_parts c.args.i c.args.number) (from_start (chain_at (omega arith) c.put_head-a.ensures c.put_bytes_at.ensures))
+returns c = rw (size_is c.args.i c.args.number) c.number_line.ensures

@@ -1,7 +1,6 @@
 -- `jobrules::are_pins_free` meets its contract: a pin is free where its row's bit is not set. Assumes nothing.
 use mathlib.Core.Path.{sym, ap, ◌∙◌}
 use mathlib.Core.Bool.{not}
-use borrow.Author.Tests.{not-true, not-false}
 use Rattle.jobrules.proofs.Pins.{left_used, right_decides}
 use Rattle.jobrules.proofs.are_pins_free.Goals as goal
 

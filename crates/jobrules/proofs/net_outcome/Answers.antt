@@ -40,14 +40,11 @@ returns-then-net c job s h =
     fails_7 _ _ _ _ _ _ _ job s h (sym c.is_net_in_range.ensures ∙ c.if-not-is_net_in_range.false) c.if-count-ge512.false c.if-not-numbered.false
     (sym (c.are_pins_free.ensures job.nets h.pins) ∙ c.if-not-are_pins_free.false) c.if-net.true
 
-pub shortest-shape-requires-clause-net_in_range : goal.shortest-shape-requires-clause-net_in_range
-shortest-shape-requires-clause-net_in_range c = in_range _ _ _ (sym c.is_net_in_range.ensures ∙ c.if-not-is_net_in_range.false)
+pub invariant_of-given-clause-net_in_range : goal.invariant_of-given-clause-net_in_range
+invariant_of-given-clause-net_in_range c = in_range _ _ _ (sym c.is_net_in_range.ensures ∙ c.if-not-is_net_in_range.false)
 
-pub length_of-requires-clause-net_in_range : goal.length_of-requires-clause-net_in_range
-length_of-requires-clause-net_in_range c = in_range _ _ _ (sym c.is_net_in_range.ensures ∙ c.if-not-is_net_in_range.false)
-
-pub length_of-requires-clause-shape_bound : goal.length_of-requires-clause-shape_bound
-length_of-requires-clause-shape_bound c =
+pub length_of-requires : goal.length_of-requires
+length_of-requires c =
     let r = in_range _ _ _ (sym c.is_net_in_range.ensures ∙ c.if-not-is_net_in_range.false) in
     omega (arith, ap extra c.shortest-shape.ensures, stretch_range _ _ c.requires r)
 
@@ -56,9 +53,6 @@ returns-then-net-length_of c job s h =
     fails_8 _ _ _ _ _ _ _ job s h (sym c.is_net_in_range.ensures ∙ c.if-not-is_net_in_range.false) c.if-count-ge512.false c.if-not-numbered.false
     (sym (c.are_pins_free.ensures job.nets h.pins) ∙ c.if-not-are_pins_free.false) ((differ_is _ _).1 c.if-net.false)
     (test_no _ (c.length_of.ensures ∙ ap (length_of _ _) c.shortest-shape.ensures) c.if-net-length_of.true)
-
-pub needed-requires-clause-net_in_range : goal.needed-requires-clause-net_in_range
-needed-requires-clause-net_in_range c = in_range _ _ _ (sym c.is_net_in_range.ensures ∙ c.if-not-is_net_in_range.false)
 
 pub returns-then-size-needed : goal.returns-then-size-needed
 returns-then-size-needed c job s h =

@@ -1,6 +1,6 @@
 -- `jobsteps::size_outcome` meets its contract: refusal 3 of H or K. Assumes nothing.
 use mathlib.Core.Path.{sym, ◌∙◌}
-use Rattle.jobsteps.proofs.Lines.{size_refused, size_passed}
+use Rattle.jobsteps.proofs.Taking.{size_refused, size_passed}
 use Rattle.jobsteps.proofs.size_outcome.Goals as goal
 
 pub returns-then-not-is_within : goal.returns-then-not-is_within

@@ -3,7 +3,6 @@ use mathlib.Core.Path.{refl, sym, ap, ◌∙◌}
 use Rattle.board.specs.declared.Board.{Board}
 use Rattle.board.specs.Weight.{weight}
 use Rattle.layout.specs.Tree.{wire}
-use Rattle.drc.specs.Covers.{drawn_of}
 use Rattle.drc.specs.Judge.{is_opening}
 use Rattle.judging.specs.declared.LinesJudged.TheVariants.{Running}
 use Rattle.judging.proofs.Turns.{idle_off, closes_off, wire_place, wire_range}
@@ -11,78 +10,80 @@ use Rattle.judging.proofs.Steps.{wire_taken}
 use Rattle.layoutsteps.proofs.WireLines.{place_none, drawn_at, unknown_undrawn, unknown_weight, found_number, known_weight, known_drawn}
 use Rattle.layoutsteps.proofs.take_wire.Goals as goal
 
-pub returns-in_default : goal.returns-in_default
+pub returns-in_default-clause-keeps_step : goal.returns-in_default-clause-keeps_step
 unfolding is_opening
-returns-in_default c =
-    let a = c.args in record {
-      keeps_step = λ job st w acc is f rd map k. idle_off job a.line st (wire w) a.m a.stands.now refl c.in_default.not-Running k;
-      judged_in_range = tt;
-    }
+returns-in_default-clause-keeps_step c =
+    let a = c.args in
+    λ st w f rd map k. idle_off a.job.now a.line st (wire w) a.m a.stands.now refl c.in_default.not-Running k
 
 pub returns-then-not-is_wire_turn-clause-keeps_step : goal.returns-then-not-is_wire_turn-clause-keeps_step
 returns-then-not-is_wire_turn-clause-keeps_step c =
-    λ job st w acc is f rd map k.
+    λ st w f rd map k.
     let a = c.args in
+    let job = a.job.now in
+    let acc = c.board-board.ensures.accepted in
+    let is = ap (λ (b : Board). b.tracks) (sym c.board-board.ensures.board) in
     let j = c.in-Running.above in
     let h = rw c.in-Running.is at k in
     let turn = sym c.is_wire_turn.ensures ∙ c.if-not-is_wire_turn.true in
     rw c.closed.ensures
-    (closes_off job a.line st (wire w) (Running j) a.stands.now h (sym (wire_place job a.board.tracks (ap (λ (b : Board). b.tracks) is) j a.stands.now st w h) ∙ turn))
+    (closes_off job a.line st (wire w) (Running j) a.stands.now h (sym (wire_place job c.board-board.result.tracks is j a.stands.now st w h) ∙ turn))
 
 pub returns-in_default-found-clause-keeps_step : goal.returns-in_default-found-clause-keeps_step
 returns-in_default-found-clause-keeps_step c =
-    λ job st w acc is f rd map k.
+    λ st w f rd map k.
     let a = c.args in
+    let job = a.job.now in
+    let acc = c.board-board.ensures.accepted in
+    let is = ap (λ (b : Board). b.tracks) (sym c.board-board.ensures.board) in
     let j = c.in-Running.above in
     let h = rw c.in-Running.is at k in
-    let turn = sym (wire_place job a.board.tracks (ap (λ (b : Board). b.tracks) is) j a.stands.now st w h) ∙ sym c.is_wire_turn.ensures ∙ c.if-not-is_wire_turn.false in
+    let turn = sym (wire_place job c.board-board.result.tracks is j a.stands.now st w h) ∙ sym c.is_wire_turn.ensures ∙ c.if-not-is_wire_turn.false in
     let none = (rw c.in_default-found.is at f).index_is in
     wire_taken job a.line j a.stands.now st w _ _ _ turn h (unknown_undrawn job w none j.track.0)
     (λ m q. c.add_undrawn.ensures.keeps_summary job m w a.stands.now a.stands.now (unknown_weight job w none) q)
 
-pub add_drawn-behind-requires-clause-net_fits : goal.add_drawn-behind-requires-clause-net_fits
-add_drawn-behind-requires-clause-net_fits c =
-    let a = c.args in
+pub invariant_of-add_drawn : goal.invariant_of-add_drawn
+invariant_of-add_drawn c =
     let l = c.requires.line_of_wire in
     let n = c.in-Some.found in
-    let r = rw c.in-Some.is at c.requires.found_fits.found_range in
-    let at = drawn_at a.board c.in-Running.above.track.0 l.line.points n.net c.in-Some-drawn_place.field-0 (c.in-Some-drawn_place.ensures l.line l.read (rw c.in-Some.is at l.number_is)) in
-    record {
-      board_range = c.requires.found_fits.board_range;
-      net_range = r.net_range;
-      index_range = r.index_range;
-      before_range = r.before_range;
-      from_one = at.from_one;
-      to_last = at.to_last;
-    }
+    let numbered = rw c.in-Some.is at l.number_is in
+    let at = drawn_at n.net.board c.in-Running.above.track l.line.points n.net.net c.in-Some-drawn_place.wired (c.in-Some-drawn_place.ensures l.line l.read numbered) in
+    record { from_one = at.from_one; to_last = at.to_last }
 
 pub returns-in-Some-drawn_place-clause-keeps_step : goal.returns-in-Some-drawn_place-clause-keeps_step
 returns-in-Some-drawn_place-clause-keeps_step c =
-    λ job st w acc is f rd map k.
+    λ st w f rd map k.
     let a = c.args in
+    let job = a.job.now in
+    let acc = c.board-board.ensures.accepted in
+    let is = ap (λ (b : Board). b.tracks) (sym c.board-board.ensures.board) in
     let j = c.in-Running.above in
     let h = rw c.in-Running.is at k in
     let on = sym c.is_wire_turn.ensures ∙ c.if-not-is_wire_turn.false in
-    let turn = sym (wire_place job a.board.tracks (ap (λ (b : Board). b.tracks) is) j a.stands.now st w h) ∙ on in
+    let turn = sym (wire_place job c.board-board.result.tracks is j a.stands.now st w h) ∙ on in
     let n = c.in-Some.found in
     let g = rw c.in-Some.is at f in
     let blocks = rw c.in-Running.is at map in
     let number = found_number job w acc n g in
-    let at = drawn_at a.board j.track.0 w.points n.net c.in-Some-drawn_place.field-0 (c.in-Some-drawn_place.ensures w rd (sym number)) in
+    let at = drawn_at n.net.board j.track w.points n.net.net c.in-Some-drawn_place.wired (c.in-Some-drawn_place.ensures w rd (sym number)) in
     wire_taken job a.line j a.stands.now st w _ _ _ turn h
-    (known_drawn job w acc n g j.track.0 ∙ ap (λ (b : Board). drawn_of b j.track.0 w.points n.net) is ∙ at.drawn_is)
-    (λ m q. c.add_drawn-behind.ensures.keeps_summary job m w acc is g.net_is number blocks (wire_range a.board.tracks j on).0 q)
+    (known_drawn job w acc n g j.track.0 ∙ at.drawn_is)
+    (λ m q. c.add_drawn-behind.ensures.keeps_summary job m w acc g.net_is number blocks (wire_range c.board-board.result.tracks j on).0 q)
 
 pub returns-in-None-clause-keeps_step : goal.returns-in-None-clause-keeps_step
 unfolding weight
 returns-in-None-clause-keeps_step c =
-    λ job st w acc is f rd map k.
+    λ st w f rd map k.
     let a = c.args in
+    let job = a.job.now in
+    let acc = c.board-board.ensures.accepted in
+    let is = ap (λ (b : Board). b.tracks) (sym c.board-board.ensures.board) in
     let j = c.in-Running.above in
     let h = rw c.in-Running.is at k in
-    let turn = sym (wire_place job a.board.tracks (ap (λ (b : Board). b.tracks) is) j a.stands.now st w h) ∙ sym c.is_wire_turn.ensures ∙ c.if-not-is_wire_turn.false in
+    let turn = sym (wire_place job c.board-board.result.tracks is j a.stands.now st w h) ∙ sym c.is_wire_turn.ensures ∙ c.if-not-is_wire_turn.false in
     let n = c.in-Some.found in
     let g = rw c.in-Some.is at f in
     wire_taken job a.line j a.stands.now st w _ _ _ turn h
-    (known_drawn job w acc n g j.track.0 ∙ ap (λ (b : Board). drawn_of b j.track.0 w.points n.net) is ∙ place_none _ (c.in-None.ensures w rd (sym (found_number job w acc n g))))
+    (known_drawn job w acc n g j.track.0 ∙ place_none j.track _ (c.in-None.ensures w rd (sym (found_number job w acc n g))))
     (λ m q. c.add_undrawn-behind.ensures.keeps_summary job m w a.stands.now a.stands.now (known_weight job w acc n g) q)

@@ -1,26 +1,28 @@
 -- `linewriter::put_head` meets its contract: three writes in a row. Assumes nothing.
-use native.Mathlib.Omega.{arith}
-use Rattle.text.proofs.Writing.{lengths, kept_at, chain_at}
-use Rattle.linewriter.proofs.Parts.{head_parts, head_length}
+use Prim.Native.Nat.{ℕ, ◌+◌, ◌≤◌}
+use mathlib.Core.List.{List, [], ◌∷◌}
+use lib.ListN.{length}
+use Rattle.text.specs.Digits.{digits}
+use Rattle.keywords.specs.Keywords.{word_of}
+use Rattle.keywords.specs.declared.Vocabulary.{Vocabulary}
+use Rattle.linewriter.specs.LineText.{head_text}
+use Rattle.linewriter.proofs.Parts.{head_parts}
+use Rattle.linewriter.proofs.Runs.{Run, run_start, run_room, ◌then◌, run_end}
 use Rattle.linewriter.proofs.put_head.Goals as goal
 
+run : (v : Vocabulary) (i n : ℕ) {at : ℕ} {s : List ℕ} → at + length (head_text v i n) ≤ length s →
+    Run at (head_text v i n) ((32 ∷ 40 ∷ []) ∷ word_of v i ∷ (32 ∷ digits n) ∷ []) s s at
+run v i n h = run_start _ (head_parts v i n) h
+
 pub put_bytes_at-a-requires : goal.put_bytes_at-a-requires
-put_bytes_at-a-requires c = omega (arith, head_length c.args.v c.args.i c.args.number)
+put_bytes_at-a-requires c = run_room (run c.args.v c.args.i c.args.number c.requires.1)
 
 pub put_word_at-b-requires : goal.put_word_at-b-requires
-put_word_at-b-requires c =
-    let l = head_length c.args.v c.args.i c.args.number in
-    let w = c.put_bytes_at-a.ensures in
-    (omega arith, omega (arith, w.next, kept_at w (omega arith)))
+put_word_at-b-requires c = (c.requires.0, run_room (run c.args.v c.args.i c.args.number c.requires.1 then c.put_bytes_at-a.ensures))
 
 pub put_spaced-requires : goal.put_spaced-requires
-put_spaced-requires c =
-    let l = head_length c.args.v c.args.i c.args.number in
-    let w = chain_at (omega arith) c.put_bytes_at-a.ensures c.put_word_at-b.ensures in
-    omega (arith, simp lengths at w.next, kept_at w (simp lengths (omega arith)))
+put_spaced-requires c = run_room (run c.args.v c.args.i c.args.number c.requires.1 then c.put_bytes_at-a.ensures then c.put_word_at-b.ensures)
 
 pub returns : goal.returns
 returns c =
-    let l = head_length c.args.v c.args.i c.args.number in
-    let w = chain_at (omega arith) c.put_bytes_at-a.ensures c.put_word_at-b.ensures in
-    rw (head_parts c.args.v c.args.i c.args.number) (chain_at (simp lengths (omega arith)) w c.put_spaced.ensures)
+    run_end (run c.args.v c.args.i c.args.number c.requires.1 then c.put_bytes_at-a.ensures then c.put_word_at-b.ensures then c.put_spaced.ensures)

@@ -1,6 +1,5 @@
 -- `reader::read` meets its contract: the length is tested first. Assumes nothing.
-use mathlib.Core.Path.{◌≡◌, sym, ap, ◌∙◌}
-use Rattle.std.specs.Prelude.{Ok, Err}
+use mathlib.Core.Path.{ap, ◌∙◌}
 use Rattle.std.proofs.lemmas.Result.{err_from_is_err_and}
 use Rattle.jobfile.specs.Answers.{answer_of}
 use Rattle.jobfile.proofs.Returned.{right_answer}

@@ -5,7 +5,7 @@ use Rattle.reader.proofs.Reading.{LinesLeft}
 use Rattle.reader.proofs.read_lines.Given as goal
 
 abbrev pub invariant-loop-form : goal.invariant-loop-form
-invariant-loop-form l = LinesLeft l.text l.above l.slots l.cursor
+invariant-loop-form l = LinesLeft l.text l.stage l.nets l.slots l.cursor
 
 abbrev pub decreases-loop-form : goal.decreases-loop-form
 decreases-loop-form l = length l.text - l.cursor.place.at

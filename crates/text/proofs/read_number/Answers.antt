@@ -19,7 +19,7 @@ pub returns-in_default-2 : goal.returns-in_default-2
 returns-in_default-2 c = sym (number_above _ c.loop-b.invariant (omega arith) (omega arith))
 
 pub loop-b-preserved : goal.loop-b-preserved
-loop-b-preserved c = rw c.from.ensures (sofar_more c.loop-b.invariant (omega arith) (omega arith) (omega arith))
+loop-b-preserved c = rw (c.from.ensures, c.from-in-48-to-57.ensures) (sofar_more c.loop-b.invariant (omega arith) (omega arith) (omega arith))
 
 pub returns : goal.returns
 returns c = sym (number_whole _ c.loop-b.invariant (omega arith) (grind arith) (omega arith))

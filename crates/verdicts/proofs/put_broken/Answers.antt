@@ -7,15 +7,6 @@ use Rattle.text.proofs.Writing.{kept, chain}
 use Rattle.verdicts.proofs.Lines.{broken_head, broken_parts, broken_length}
 use Rattle.verdicts.proofs.put_broken.Goals as goal
 
-pub put_bytes-at-requires : goal.put_bytes-at-requires
-put_bytes-at-requires c = omega (arith, broken_length c.args.line)
-
-pub put_spaced-at-requires : goal.put_spaced-at-requires
-put_spaced-at-requires c =
-    let l = broken_length c.args.line in
-    let w = c.put_bytes-at.ensures in
-    omega (arith, w.used, kept w (omega arith))
-
 pub put_bytes_at-requires : goal.put_bytes_at-requires
 put_bytes_at-requires c =
     let a = c.args in

@@ -7,9 +7,6 @@ use Rattle.verdicts.specs.Verdicts.{verdict_line}
 use Rattle.verdicts.proofs.Lines.{broken_length, broken_is, refused_is, written_as}
 use Rattle.verdicts.proofs.put_verdict.Goals as goal
 
-pub put_bytes-requires : goal.put_bytes-requires
-put_bytes-requires c = omega arith
-
 pub returns-in-Ok : goal.returns-in-Ok
 unfolding verdict_line
 returns-in-Ok c = rw c.in-Ok.is c.put_bytes.ensures

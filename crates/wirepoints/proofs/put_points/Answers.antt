@@ -9,45 +9,38 @@ use Rattle.wirepoints.proofs.put_points.Goals.{then-lt, else-lt}
 
 pub put_pin-requires : goal.put_pin-requires
 put_pin-requires c =
-    let a = c.args in
-    rw c.plain_path.ensures (omega (arith, c.requires.top_in_bounds, ap length (plain_points a.board a.track a.net a.shape a.top c.width-w.result c.in-Plain.is c.width-w.ensures)))
+    let e = plain_points c.args.net c.args.wired c.width-w.result c.in-Plain.is c.width-w.ensures in
+    rw c.plain_path.ensures (omega (arith, c.requires.top_in_bounds, ap length e))
 
 pub returns-in-Plain : goal.returns-in-Plain
 returns-in-Plain c =
-    let a = c.args in
-    let w = rw c.plain_path.ensures at c.put_pin.ensures in
-    written_at_as (sym (plain_points a.board a.track a.net a.shape a.top c.width-w.result c.in-Plain.is c.width-w.ensures)) w
+    let e = plain_points c.args.net c.args.wired c.width-w.result c.in-Plain.is c.width-w.ensures in
+    written_at_as (sym e) (rw c.plain_path.ensures at c.put_pin.ensures)
 
 -- at a stretched wire, with its width and span told: its bottom row, and its points, down or up
 
 pub overflow_add-bottom : goal.overflow_add-bottom
 overflow_add-bottom c =
-    let a = c.args in
-    let d = c.requires.drawable in
-    omega (arith, bottom_small a.board a.track a.net a.shape a.top c.width-w.result c.span.result c.in-Stretched.e c.in-Stretched.is d.track_range.0 c.width-w.ensures c.span.ensures d)
+    omega (arith, bottom_small c.args.net c.args.wired c.width-w.result c.span.result c.in-Stretched.e c.in-Stretched.is c.requires.drawable c.width-w.ensures c.span.ensures)
 
 pub overflow_add-bottom-in-Stretched : goal.overflow_add-bottom-in-Stretched
 overflow_add-bottom-in-Stretched c =
-    let a = c.args in
-    let d = c.requires.drawable in
-    omega (arith, bottom_small a.board a.track a.net a.shape a.top c.width-w.result c.span.result c.in-Stretched.e c.in-Stretched.is d.track_range.0 c.width-w.ensures c.span.ensures d)
+    omega (arith, bottom_small c.args.net c.args.wired c.width-w.result c.span.result c.in-Stretched.e c.in-Stretched.is c.requires.drawable c.width-w.ensures c.span.ensures)
 
 pub put_pin-requires-in-Stretched : goal.put_pin-requires-in-Stretched
 put_pin-requires-in-Stretched c =
-    let a = c.args in
-    let k = c.requires.drawable.track_range in
-    let e = stretched_points a.board a.track a.net a.shape a.top c.width-w.result c.span.result c.in-Stretched.e c.in-Stretched.is k.0 c.width-w.ensures c.span.ensures in
+    let n = c.args.net.net in
+    let e = stretched_points c.args.net c.args.wired c.width-w.result c.span.result c.in-Stretched.e c.in-Stretched.is c.requires.drawable c.width-w.ensures c.span.ensures in
     elim c.if-lt.branch [
-      | then-lt w ↦ rw (w.path-is, w.stretched_path-path.ensures) (omega (arith, c.requires.top_in_bounds, ap length (e true (above a.net.left.0 a.net.right.0 c.lt.ensures w.if-lt.true))))
-      | else-lt w ↦ rw (w.path-is, w.stretched_path-path-else-lt.ensures) (omega (arith, c.requires.top_in_bounds, ap length (e false (above a.net.left.0 a.net.right.0 c.lt.ensures w.if-lt.false))))
+      | then-lt w ↦ rw (w.path-is, w.stretched_path-path.ensures) (omega (arith, c.requires.top_in_bounds, ap length (e true (above n.left.0 n.right.0 c.lt.ensures w.if-lt.true))))
+      | else-lt w ↦ rw (w.path-is, w.stretched_path-path-else-lt.ensures) (omega (arith, c.requires.top_in_bounds, ap length (e false (above n.left.0 n.right.0 c.lt.ensures w.if-lt.false))))
     ]
 
 pub returns-after-lt : goal.returns-after-lt
 returns-after-lt c =
-    let a = c.args in
-    let k = c.requires.drawable.track_range in
-    let e = stretched_points a.board a.track a.net a.shape a.top c.width-w.result c.span.result c.in-Stretched.e c.in-Stretched.is k.0 c.width-w.ensures c.span.ensures in
+    let n = c.args.net.net in
+    let e = stretched_points c.args.net c.args.wired c.width-w.result c.span.result c.in-Stretched.e c.in-Stretched.is c.requires.drawable c.width-w.ensures c.span.ensures in
     elim c.if-lt.branch [
-      | then-lt w ↦ written_at_as (sym (e true (above a.net.left.0 a.net.right.0 c.lt.ensures w.if-lt.true))) (rw (w.path-is, w.stretched_path-path.ensures) at c.put_pin-in-Stretched.ensures)
-      | else-lt w ↦ written_at_as (sym (e false (above a.net.left.0 a.net.right.0 c.lt.ensures w.if-lt.false))) (rw (w.path-is, w.stretched_path-path-else-lt.ensures) at c.put_pin-in-Stretched.ensures)
+      | then-lt w ↦ written_at_as (sym (e true (above n.left.0 n.right.0 c.lt.ensures w.if-lt.true))) (rw (w.path-is, w.stretched_path-path.ensures) at c.put_pin-in-Stretched.ensures)
+      | else-lt w ↦ written_at_as (sym (e false (above n.left.0 n.right.0 c.lt.ensures w.if-lt.false))) (rw (w.path-is, w.stretched_path-path-else-lt.ensures) at c.put_pin-in-Stretched.ensures)
     ]

@@ -1,5 +1,5 @@
 -- `reader::cursor::Cursor::next` meets its contract: the form of the line here, and the place behind it. Assumes nothing.
-use mathlib.Core.Path.{sym, ap, ◌∙◌}
+use mathlib.Core.Path.{ap}
 use native.Mathlib.Omega.{arith}
 use Rattle.lines.proofs.Steps.{stepped}
 use Rattle.reader.specs.Cursors.{form_on, form_step}

@@ -1,8 +1,0 @@
--- `board::width` meets its contract. Assumes nothing.
-use native.Mathlib.Omega.{arith}
-use Rattle.board.specs.Length.{width}
-use Rattle.board.proofs.width.Goals as goal
-
-pub returns : goal.returns
-unfolding width
-returns c = omega arith

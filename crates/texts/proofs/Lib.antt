@@ -1,0 +1,2 @@
+-- Laws of the texts on standard input.
+pub mod TextsLeft

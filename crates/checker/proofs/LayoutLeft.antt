@@ -1,12 +1,12 @@
 -- The loop of check: the lines that are left decide. Assumes nothing.
-use Prim.Native.Nat.{ℕ, suc, ◌+◌, ◌-◌, ◌≤◌}
+use Prim.Native.Nat.{ℕ, zero, suc, ◌+◌, ◌-◌, ◌≤◌}
 use mathlib.Core.Path.{◌≡◌, refl, sym, ap, ◌∙◌}
 use Rattle.std.specs.Prelude.{Option, None, Some, Ok, Err}
 use mathlib.Core.List.{List}
 use native.Mathlib.Omega.{arith}
-use lib.ListN.{length, take, drop, replicate}
+use lib.ListN.{length, get_or, take, drop, replicate}
+use Rattle.board.specs.declared.Track.{Track}
 use Rattle.board.specs.Job.{Job}
-use Rattle.blockmap.proofs.RowBits.{get_d_zeros}
 use Rattle.lines.specs.Places.{step_at}
 use Rattle.lines.specs.Stepped.{Stepped}
 use Rattle.lines.specs.declared.Place.{Place}
@@ -53,25 +53,25 @@ none_left s None q = refl
 -- ---- what a line leads to
 
 -- the verdict stands
-decided : (job : Job) (y : PassStep) (l : ℕ) (stands : List ℕ) (f : PassState → Verdict) → KeepsStep job y (Err l) stands → after_step y f ≡ broken_at l
+decided : (job : Job) (y : PassStep) (l : ℕ) (stands : List (Option Track)) (f : PassState → Verdict) → KeepsStep job y (Err l) stands → after_step y f ≡ broken_at l
 unfolding after_step
 decided job (passes_on st) l stands f k = absurd k
 decided job (decides v) l stands f k = k
 
 -- the pass goes on
-record GoesOn (job : Job) (y : PassStep) (j : LinesJudged) (stands : List ℕ) : Type 0 where
+record GoesOn (job : Job) (y : PassStep) (j : LinesJudged) (stands : List (Option Track)) : Type 0 where
   state : PassState
   is : y ≡ passes_on state
   keeps : KeepsState job state j stands
 
-undecided : (job : Job) (y : PassStep) (j : LinesJudged) (stands : List ℕ) → KeepsStep job y (Ok j) stands → GoesOn job y j stands
+undecided : (job : Job) (y : PassStep) (j : LinesJudged) (stands : List (Option Track)) → KeepsStep job y (Ok j) stands → GoesOn job y j stands
 undecided job (passes_on st) j stands k = record { state = st; is = refl; keeps = k }
 undecided job (decides v) j stands k = absurd k
 
 -- ---- the lines that are left
 
 -- a text whose lines from a place on are left, where j, `stands` and the block map of its track hold those above
-pub record LayoutLeft (job : Job) (s : List ℕ) (j : LinesJudged) (stands words : List ℕ) (p : Place) : Type 0 where
+pub record LayoutLeft (job : Job) (s : List ℕ) (j : LinesJudged) (stands : List (Option Track)) (words : List ℕ) (p : Place) : Type 0 where
   pub state : PassState
   pub keeps : KeepsState job state j stands
   pub map : MapOf job (track_of j).0 words
@@ -79,20 +79,26 @@ pub record LayoutLeft (job : Job) (s : List ℕ) (j : LinesJudged) (stands words
   pub inside : p.at ≤ length s
   pub rest : pass_over job s ≡ pass_from job (suc p.passed) state (lines_read (drop p.at s))
 
+-- no net has a line above
+none_stands : (n i : ℕ) → get_or {A = Option Track} (replicate n None) i None ≡ None
+none_stands zero i = refl
+none_stands (suc n) zero = refl
+none_stands (suc n) (suc i) = none_stands n i
+
 pub left_start : (job : Job) (s words : List ℕ) (p : Place) → length job.nets ≤ 512 → MapOf job 0 words → p.at ≡ 0 → p.passed ≡ 0 →
-    LayoutLeft job s Is.Unbegun (replicate 512 0) words p
+    LayoutLeft job s Is.Unbegun (replicate 512 None) words p
 unfolding pass_over
 left_start job s words p room blocks f h =
     record {
       state = unbegun;
-      keeps = (room, get_d_zeros 512);
+      keeps = (room, none_stands 512);
       map = blocks;
       counted = omega arith;
       inside = omega arith;
       rest = rw (f, h);
     }
 
-module _ (job : Job) (s : List ℕ) (j : LinesJudged) (stands words : List ℕ) (p : Place) (w : LayoutLeft job s j stands words p) where
+module _ (job : Job) (s : List ℕ) (j : LinesJudged) (stands : List (Option Track)) (words : List ℕ) (p : Place) (w : LayoutLeft job s j stands words p) where
   module _ (x : LayoutLine) (e : Some x ≡ layout_step s p) where
     seen : Behind s (step_at s p) x
     unfolding layout_step
@@ -116,10 +122,10 @@ module _ (job : Job) (s : List ℕ) (j : LinesJudged) (stands words : List ℕ) 
         let r : suc (suc p.passed) ≡ suc x.next.passed = omega arith in
         w.rest ∙ rw (lines_ahead s p (line_of x) seen.line, r, q)
 
-    pub left_broken : (l : ℕ) (after : List ℕ) → KeepsStep job led (Err l) after → pass_over job s ≡ broken_at l
+    pub left_broken : (l : ℕ) (after : List (Option Track)) → KeepsStep job led (Err l) after → pass_over job s ≡ broken_at l
     left_broken l after k = turn ∙ decided job led l after _ k
 
-    pub left_more : (i : LinesJudged) (after words' : List ℕ) → KeepsStep job led (Ok i) after → MapOf job (track_of i).0 words' →
+    pub left_more : (i : LinesJudged) (after : List (Option Track)) (words' : List ℕ) → KeepsStep job led (Ok i) after → MapOf job (track_of i).0 words' →
         LayoutLeft job s i after words' x.next
     unfolding after_step
     left_more i after words' k blocks =
@@ -152,14 +158,14 @@ answer_broken job s l e = answer_end job s (broken_at l) e
 
 -- the end of the text
 
-pub ends_sound : (job : Job) (st : PassState) (stands : List ℕ) (n : ℕ) → KeepsState job st Is.Finished stands → Ok tt ≡ verdict_answer (pass_end n st)
+pub ends_sound : (job : Job) (st : PassState) (stands : List (Option Track)) (n : ℕ) → KeepsState job st Is.Finished stands → Ok tt ≡ verdict_answer (pass_end n st)
 unfolding verdict_answer pass_end
 ends_sound job unbegun stands n k = absurd k
 ends_sound job (running m) stands n k = absurd k
 ends_sound job finished stands n k = refl
 
 -- before `)` the text stops early, which is broken as a line not of the form is
-early_end : (job : Job) (st : PassState) (j : LinesJudged) (stands : List ℕ) (n : ℕ) → KeepsState job st j stands → (j ≡ Is.Finished → ⊥) →
+early_end : (job : Job) (st : PassState) (j : LinesJudged) (stands : List (Option Track)) (n : ℕ) → KeepsState job st j stands → (j ≡ Is.Finished → ⊥) →
     pass_end n st ≡ pass_ill_formed n st
 unfolding pass_end pass_ill_formed
 early_end job unbegun j stands n k d = refl
@@ -167,7 +173,7 @@ early_end job (running m) j stands n k d = refl
 early_end job finished Is.Finished stands n k d = absurd (d refl)
 early_end job finished j stands n k d = absurd k
 
-pub ends_early : (job : Job) (st : PassState) (j : LinesJudged) (stands : List ℕ) (n : ℕ) → KeepsState job st j stands → (j ≡ Is.Finished → ⊥) →
+pub ends_early : (job : Job) (st : PassState) (j : LinesJudged) (stands : List (Option Track)) (n : ℕ) → KeepsState job st j stands → (j ≡ Is.Finished → ⊥) →
     Err (Broken (closed_of j n)) ≡ verdict_answer (pass_end n st)
 unfolding verdict_answer
 ends_early job st j stands n k d = ap verdict_answer (sym (early_end job st j stands n k d ∙ closes_ill_formed job n st j stands k))

@@ -1,9 +1,10 @@
 // Check: a layout text is sound for a job, or broken at its first broken line.
 #![tactic(auto)]
 
-ghost use Rattle.std.specs.Prelude.{◌≡◌, List, ℕ, Err};
+ghost use Rattle.std.specs.Prelude.{◌≡◌, List, ℕ, Option, Err};
 ghost use Rattle.checker.specs.declared.CheckError.TheVariants.{Refused};
 ghost use Rattle.board.specs.Job.{Job};
+ghost use Rattle.board.specs.declared.Track as B;
 ghost use Rattle.jobfile.specs.Read.{read_job};
 ghost use Rattle.drc.specs.Pass.{PassState, pass_end, pass_over};
 ghost use Rattle.judging.specs.Judged.{KeepsState};
@@ -71,7 +72,7 @@ impl CheckError {
 
 // The end of the text, where `line` is the line after the last: broken there, unless the closing line stands above.
 fn finish(m: LinesJudged, line: usize) -> Result<(), CheckError>
-    ensures { (job : Job) (st : PassState) (stands : List ℕ) → KeepsState job st m stands → result ≡ verdict_answer (pass_end line st) }
+    ensures { (job : Job) (st : PassState) (stands : List (Option B.Track)) → KeepsState job st m stands → result ≡ verdict_answer (pass_end line st) }
 {
     match m {
         LinesJudged::Finished => Ok(()),
@@ -84,7 +85,7 @@ fn judge_lines(tables: NetTables, text: &[u8]) -> Result<(), CheckError>
     ensures { result ≡ verdict_answer (pass_over tables.entry.job.now text.now) }
 {
     let job = tables.job;
-    let mut stands = [0usize; 512];
+    let mut stands = [None; 512];
     let mut map = candidates::block_map(job, Track(0));
     let mut m = LinesJudged::Unbegun;
     let mut place = Place::start();

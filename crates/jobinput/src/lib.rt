@@ -39,7 +39,7 @@ pub fn printed_input<T: Operation, R: Read + Drop>(input: R) -> PrintedInput
     PrintedInput { job, printed }
 }
 
-// Routes the job that a reader gives, as standard input does.
+// Routes the job that a reader gives, as standard input does: what `print_input::<Route>` prints.
 pub fn routed_input<R: Read + Drop>(input: R) -> PrintedInput
     ensures read { ReadText result.job }
     ensures given { IfSome (R.remaining input) (λ xs. StartsWith xs (text_of result.job)) }
@@ -51,7 +51,7 @@ pub fn routed_input<R: Read + Drop>(input: R) -> PrintedInput
     printed_input::<Route, R>(input)
 }
 
-// The fixed text of the job that a reader gives, as standard input does.
+// The fixed text of the job that a reader gives, as standard input does: what `print_input::<House>` prints.
 pub fn fixed_input<R: Read + Drop>(input: R) -> PrintedInput
     ensures read { ReadText result.job }
     ensures given { IfSome (R.remaining input) (λ xs. StartsWith xs (text_of result.job)) }
@@ -64,14 +64,9 @@ pub fn fixed_input<R: Read + Drop>(input: R) -> PrintedInput
     printed_input::<House, R>(input)
 }
 
-// Reads a job on standard input, and prints its layout, or its refusal as `(refused number line)`. A failure to print is passed over.
-pub fn route_input(rt: &(impl Input + Print)) {
-    let _ = rt.write_all(routed_input(rt.reader()).printed.text());
-}
-
-// Reads a job on standard input, and prints its fixed text, or its refusal as `(refused number line)`. A failure to print is passed over.
-pub fn house_input(rt: &(impl Input + Print)) {
-    let _ = rt.write_all(fixed_input(rt.reader()).printed.text());
+// Reads a job on standard input, and prints its text, or its refusal as `(refused number line)`. A failure to print is passed over.
+pub fn print_input<T: Operation>(rt: &(impl Input + Print)) {
+    let _ = rt.write_all(printed_input::<T, _>(rt.reader()).printed.text());
 }
 
 // Writes, for each job of an input, each ended by byte 255, its text or its refusal, whether or not one before could be written. It answers

@@ -1,19 +1,23 @@
 -- What a line leads to, by value, is what it leads to in the pass. What a wire adds: WireSteps.antt. Assumes nothing.
 use Prim.Native.Nat.{ℕ, suc, ◌≤◌, ◌<◌}
-use mathlib.Core.Path.{◌≡◌, refl, sym, ap, subst, ◌∙◌}
-use mathlib.Core.Bool.{true, false, not, ◌&&◌, and-true, and-false, false≢true}
-use Rattle.std.specs.Prelude.{Option, None, Some, Ok, Err, unwrap_or}
+use mathlib.Core.Path.{◌≡◌, refl, sym, ap, ◌∙◌}
+use mathlib.Core.Bool.{Bool, true, false, ◌&&◌, and-false, false≢true}
+use Rattle.std.specs.Prelude.{Option, None, Some, is_some, IfSome, Ok, Err, unwrap_or}
 use mathlib.Core.List.{List}
 use native.Mathlib.Omega.{arith}
 use lib.Dec.{eqb, leb, ltb}
 use lib.ListN.{length, get_or, set}
-use borrow.Author.Tests.{eq-eqb, ne_eqb, eqb-true, lt-ltb, le-ltb}
+use borrow.Author.Tests.{eqb-true, lt-ltb}
 use Rattle.lists.specs.Lists.{any_of, all_of}
 use Rattle.lists.proofs.Cases.{and_split}
+use Rattle.lists.proofs.Places.{mem_at}
+use Rattle.board.specs.declared.Track.{Track}
 use Rattle.board.specs.Job.{Job}
 use Rattle.board.specs.Placement.{Placement}
+use Rattle.board.specs.Stored.{no_net}
 use Rattle.board.specs.Accepted.{AcceptedJob}
 use Rattle.board.specs.Tests.{is_on}
+use Rattle.candidates.specs.Placed.{none_or}
 use Rattle.layout.specs.Tree.{Wire, Line, opens, track, wire, loose, closes}
 use Rattle.drc.specs.Covers.{drawn_by}
 use Rattle.drc.specs.Judge.{ends_track, is_in_turn, is_opening, is_unlined}
@@ -21,9 +25,9 @@ use Rattle.drc.specs.Pass.{Summary, add_track, add_wire, add_loose, PassState, u
 use Rattle.judging.specs.declared.LinesAbove.{LinesAbove}
 use Rattle.judging.specs.declared.LinesJudged.TheVariants as Is
 use Rattle.judging.specs.Judged.{NetLines, KeepsSummary, KeepsState, KeepsStep}
-use Rattle.judging.specs.Values.{position_numbered, broken_track, is_end_line}
+use Rattle.judging.specs.Values.{is_under, last_of, position_numbered, broken_track, is_end_line}
 use Rattle.judging.proofs.Remaining.{remaining_all}
-use Rattle.judging.proofs.Turns.{can_stand, closes_off, judged_off, judged_on, unbroken}
+use Rattle.judging.proofs.Turns.{some_last, above_last, can_stand, closes_off, judged_off, judged_on, unbroken}
 use Rattle.judging.proofs.LinedNets.{lined_all, lined_not}
 use Rattle.judging.proofs.Indexes.{index_number}
 use Rattle.judging.proofs.LinesAdded.{line_added, unlined_none, unlined_some}
@@ -32,13 +36,13 @@ use Rattle.judging.proofs.LinesAdded.{line_added, unlined_none, unlined_some}
 
 -- behind `(layout`
 abbrev pub opened : LinesAbove
-opened = record { track = record { 0 = 0 }; line = 0; remaining = Some 0; lowest = record { 0 = 0 }; last = 0; breach = None }
+opened = record { track = record { 0 = 0 }; line = 0; remaining = Some 0; lowest = record { 0 = 0 }; last = None; breach = None }
 
-pub opening_taken : (job : Job) (n : ℕ) (st : PassState) (stands : List ℕ) → KeepsState job st Is.Unbegun stands →
+pub opening_taken : (job : Job) (n : ℕ) (st : PassState) (stands : List (Option Track)) → KeepsState job st Is.Unbegun stands →
     KeepsStep job (pass_line job n st opens) (Ok (Is.Running opened)) stands
-unfolding pass_line or_broken is_opening is_on any_of
+unfolding pass_line or_broken is_opening is_on any_of last_of
 opening_taken job n unbegun stands k =
-    let none_at : (i : ℕ) → get_or stands i 0 ≡ 0 = k.1 in
+    let none_at : (i : ℕ) → get_or stands i None ≡ None = k.1 in
     record {
       track_is = refl;
       line_is = refl;
@@ -47,23 +51,23 @@ opening_taken job n unbegun stands k =
       last_is = refl;
       breach_is = refl;
       lines_are = λ z. record {
-        lined_at = λ i h. rw (eq-eqb (get_or stands i 0) 0 (none_at i));
-        earlier_at = λ i h. rw (eq-eqb (get_or stands i 0) 0 (none_at i));
+        lined_at = λ i h. rw (none_at i);
+        earlier_at = λ i h. rw (none_at i);
         room = k.0;
-        to_track = λ i h. omega (arith, none_at i);
+        to_track = λ i h. rw (none_at i) tt;
       };
     }
 opening_taken job n (running m) stands k = absurd k
 opening_taken job n finished stands k = absurd k
 
-pub opening_running : (job : Job) (n : ℕ) (st : PassState) (j : LinesAbove) (stands : List ℕ) → KeepsState job st (Is.Running j) stands →
+pub opening_running : (job : Job) (n : ℕ) (st : PassState) (j : LinesAbove) (stands : List (Option Track)) → KeepsState job st (Is.Running j) stands →
     KeepsStep job (pass_line job n st opens) (Err (unwrap_or j.breach n)) stands
 unfolding can_stand is_in_turn
 opening_running job n unbegun j stands k = absurd k
 opening_running job n (running m) j stands k = closes_off job n (running m) opens (Is.Running j) stands k refl
 opening_running job n finished j stands k = absurd k
 
-pub opening_finished : (job : Job) (n : ℕ) (st : PassState) (stands : List ℕ) → KeepsState job st Is.Finished stands →
+pub opening_finished : (job : Job) (n : ℕ) (st : PassState) (stands : List (Option Track)) → KeepsState job st Is.Finished stands →
     KeepsStep job (pass_line job n st opens) (Err n) stands
 unfolding can_stand
 opening_finished job n unbegun stands k = absurd k
@@ -76,7 +80,17 @@ in_turn : (job : Job) (n : ℕ) (m : Summary) (x : Line) → can_stand job (runn
 unfolding can_stand pass_line
 in_turn job n m x e = rw e
 
-module _ (job : Job) (n : ℕ) (j : LinesAbove) (stands : List ℕ) where
+-- ---- a line above stands under the line of a track before the next, and so before each behind it
+
+under_next : (t u : ℕ) (o : Option Track) → t < u → IfSome o (λ x. x.0 ≤ t) → is_some o ≡ is_under u o
+under_next t u None l h = refl
+under_next t u (Some x) l h = sym (lt-ltb x.0 u (omega arith))
+
+to_next : (t u : ℕ) (o : Option Track) → t < u → IfSome o (λ x. x.0 ≤ t) → IfSome o (λ x. x.0 ≤ u)
+to_next t u None l h = tt
+to_next t u (Some x) l h = omega arith
+
+module _ (job : Job) (n : ℕ) (j : LinesAbove) (stands : List (Option Track)) where
   -- a pass that keeps such lines runs
   runs : (st : PassState) (x : Line) → can_stand job st x ≡ true → KeepsState job st (Is.Running j) stands → (P : PassState → Type 0) →
       ((m : Summary) → can_stand job (running m) x ≡ true → KeepsSummary job m j stands → P (running m)) → P st
@@ -130,10 +144,9 @@ module _ (job : Job) (n : ℕ) (j : LinesAbove) (stands : List ℕ) where
         breach_is = refl;
         lines_are = λ e. record {
           lined_at = old.lined_at;
-          earlier_at = λ k g.
-              rw (lt-ltb (get_or stands k 0) u (omega (arith, old.to_track k g))) (old.lined_at k g ∙ sym (and-true (not (eqb (get_or stands k 0) 0))));
+          earlier_at = λ k g. old.lined_at k g ∙ under_next m.track u (get_or stands k None) l (old.to_track k g);
           room = old.room;
-          to_track = λ k g. omega (arith, old.to_track k g);
+          to_track = λ k g. to_next m.track u (get_or stands k None) l (old.to_track k g);
         };
       }
 
@@ -156,7 +169,7 @@ module _ (job : Job) (n : ℕ) (j : LinesAbove) (stands : List ℕ) where
 
   -- each of the nets has a line above
   abbrev pub AllLined : Type 0
-  AllLined = (k : ℕ) → k < length job.nets → get_or stands k 0 ≡ 0 → ⊥
+  AllLined = (k : ℕ) → k < length job.nets → is_some (get_or stands k None) ≡ true
 
   pub closing_taken : (st : PassState) → can_stand job st closes ≡ true → broken_track j ≡ None → AllLined → KeepsState job st (Is.Running j) stands →
       KeepsStep job (pass_line job n st closes) (Ok Is.Finished) stands
@@ -185,7 +198,7 @@ module _ (job : Job) (n : ℕ) (j : LinesAbove) (stands : List ℕ) where
 
   -- ---- a wire line, where it can stand
 
-  pub wire_taken : (st : PassState) (w : Wire) (o : Option Placement) (i : LinesAbove) (after : List ℕ) → can_stand job st (wire w) ≡ true →
+  pub wire_taken : (st : PassState) (w : Wire) (o : Option Placement) (i : LinesAbove) (after : List (Option Track)) → can_stand job st (wire w) ≡ true →
       KeepsState job st (Is.Running j) stands → drawn_by job j.track.0 w ≡ o →
       ((m : Summary) → KeepsSummary job m j stands → KeepsSummary job (add_wire job n w o m) i after) →
       KeepsStep job (pass_line job n st (wire w)) (Ok (Is.Running i)) after
@@ -206,7 +219,7 @@ module _ (job : Job) (n : ℕ) (j : LinesAbove) (stands : List ℕ) where
       line = j.line;
       remaining = j.remaining;
       lowest = j.lowest;
-      last = number;
+      last = Some number;
       breach = j.breach;
     }
 
@@ -230,50 +243,58 @@ module _ (job : Job) (n : ℕ) (j : LinesAbove) (stands : List ℕ) where
     loose_unknown st e d is = loose_broken st e d (λ m h old. rw (unlined_none job a m number is))
 
     module _ (index : ℕ) (is : Some index ≡ position_numbered number job.nets) where
+      -- the number is one of a net
+      positive : 1 ≤ number
+      positive =
+          let at = index_number job.nets number index is in
+          let n = a.nets_each (get_or job.nets index no_net) (mem_at job.nets index no_net at.0) in
+          omega (arith, n.in_range.number_range, at.1)
+
+      -- it is above that of the last loose line
+      abbrev is_later : Bool
+      is_later = none_or (λ l. ltb l number) j.last
+
+      later_same : (m : Summary) → last_of m.last ≡ j.last → ltb m.last number ≡ is_later
+      later_same m e = sym (above_last m.last number positive) ∙ ap (λ (o : Option ℕ). none_or (λ l. ltb l number) o) e
+
       -- its net has a line above
-      pub loose_lined : (st : PassState) → can_stand job st (loose number) ≡ true → broken_track j ≡ None → (get_or stands index 0 ≡ 0 → ⊥) →
+      pub loose_lined : (st : PassState) → can_stand job st (loose number) ≡ true → broken_track j ≡ None → is_some (get_or stands index None) ≡ true →
           KeepsState job st (Is.Running j) stands → KeepsStep job (pass_line job n st (loose number)) (Err n) stands
       loose_lined st e d lined =
-          loose_broken st e d (λ m h old. rw (unlined_some job a m stands old number index is, ne_eqb (get_or stands index 0) 0 lined))
+          loose_broken st e d (λ m h old. rw (unlined_some job a m stands old number index is, lined))
 
       -- it is not above the last
-      pub loose_late : (st : PassState) → can_stand job st (loose number) ≡ true → broken_track j ≡ None → number ≤ j.last →
+      pub loose_late : (st : PassState) → can_stand job st (loose number) ≡ true → broken_track j ≡ None → is_later ≡ false →
           KeepsState job st (Is.Running j) stands → KeepsStep job (pass_line job n st (loose number)) (Err n) stands
-      loose_late st e d late = loose_broken st e d (λ m h old. rw (h.last_is, le-ltb j.last number late) (and-false (is_unlined job m.lined number)))
+      loose_late st e d late = loose_broken st e d (λ m h old. rw (later_same m h.last_is ∙ late) (and-false (is_unlined job m.lined number)))
 
-      loose_added : (m : Summary) → can_stand job (running m) (loose number) ≡ true → KeepsSummary job m j stands → j.breach ≡ None → get_or stands index 0 ≡ 0 →
-          KeepsSummary job (add_loose number m) behind_loose (set stands index j.track.0)
-      unfolding can_stand is_in_turn ends_track
-      loose_added m e h z new =
+      loose_added : (m : Summary) → KeepsSummary job m j stands → j.breach ≡ None → is_some (get_or stands index None) ≡ false →
+          KeepsSummary job (add_loose number m) behind_loose (set stands index (Some j.track))
+      loose_added m h z new =
           let at = index_number job.nets number index is in
-          let on : m.track ≡ job.board.tracks = eqb-true m.track job.board.tracks e in
-          let begun : 1 ≤ m.track = omega (arith, a.board_range.tracks_range) in
           record {
             track_is = h.track_is;
             line_is = h.line_is;
             remaining_is = h.remaining_is;
             lowest_is = h.lowest_is;
-            last_is = refl;
+            last_is = some_last number positive;
             breach_is = h.breach_is;
-            lines_are = λ f.
-                subst (λ (t : ℕ). NetLines job (add_loose number m) (set stands index t)) h.track_is
-                (line_added job a m (add_loose number m) stands index number refl refl refl at.0 at.1 new begun (h.lines_are z));
+            lines_are = λ f. line_added job a m (add_loose number m) stands index number j.track refl refl refl h.track_is at.0 at.1 new (h.lines_are z);
           }
 
-      pub loose_taken : (st : PassState) → can_stand job st (loose number) ≡ true → broken_track j ≡ None → get_or stands index 0 ≡ 0 → j.last < number →
+      pub loose_taken : (st : PassState) → can_stand job st (loose number) ≡ true → broken_track j ≡ None → is_some (get_or stands index None) ≡ false → is_later ≡ true →
           KeepsState job st (Is.Running j) stands →
-          KeepsStep job (pass_line job n st (loose number)) (Ok (Is.Running behind_loose)) (set stands index j.track.0)
+          KeepsStep job (pass_line job n st (loose number)) (Ok (Is.Running behind_loose)) (set stands index (Some j.track))
       unfolding pass_in_turn or_broken
       loose_taken st e d new above k =
-          runs st (loose number) e k (λ x. KeepsStep job (pass_line job n x (loose number)) (Ok (Is.Running behind_loose)) (set stands index j.track.0))
+          runs st (loose number) e k (λ x. KeepsStep job (pass_line job n x (loose number)) (Ok (Is.Running behind_loose)) (set stands index (Some j.track)))
           (λ m t h.
           let z = unbroken j d in
           rw (
             in_turn job n m (loose number) t,
             judged_on job m j stands h (or_broken n (is_unlined job m.lined number && ltb m.last number) (passes_on (running (add_loose number m)))) d,
             unlined_some job a m stands (h.lines_are z) number index is,
-            eq-eqb (get_or stands index 0) 0 new,
-            h.last_is,
-            lt-ltb j.last number above,
+            new,
+            later_same m h.last_is ∙ above,
           )
-          (loose_added m t h z new))
+          (loose_added m h z new))

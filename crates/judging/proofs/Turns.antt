@@ -2,13 +2,15 @@
 use Prim.Native.Nat.{ℕ, suc, ◌+◌, ◌≤◌}
 use mathlib.Core.Path.{◌≡◌, refl, sym, ◌∙◌}
 use mathlib.Core.Bool.{Bool, true, false, ◌&&◌, and-false, and-true, false≢true}
-use Rattle.std.specs.Prelude.{Option, None, Some, Err, unwrap_or}
+use Rattle.std.specs.Prelude.{Option, None, Some, is_none, Err, unwrap_or}
 use mathlib.Core.List.{List}
 use native.Mathlib.Omega.{arith}
 use lib.Dec.{eqb, leb, ltb}
-use borrow.Author.Tests.{eqb-true, leb-true}
-use Rattle.lists.proofs.Cases.{by_test, and_split}
+use borrow.Author.Tests.{eqb-true, ne_eqb, lt-ltb}
+use Rattle.lists.proofs.Cases.{by_test}
+use Rattle.board.specs.declared.Track.{Track}
 use Rattle.board.specs.Job.{Job}
+use Rattle.candidates.specs.Placed.{none_or}
 use Rattle.layout.specs.Tree.{Wire, Line, track, wire, loose, closes}
 use Rattle.drc.specs.Judge.{ends_track, is_in_turn, is_opening, broken_at}
 use Rattle.drc.specs.Pass.{Summary, PassState, unbegun, running, finished, PassStep, decides, closed_at, unless_breach, judged_track, or_broken, pass_line, pass_ill_formed}
@@ -16,8 +18,30 @@ use Rattle.judging.specs.declared.LinesAbove.{LinesAbove}
 use Rattle.judging.specs.declared.LinesJudged.{LinesJudged}
 use Rattle.judging.specs.declared.LinesJudged.TheVariants as Is
 use Rattle.judging.specs.Judged.{KeepsSummary, KeepsState, KeepsStep}
-use Rattle.judging.specs.Values.{closed_of, is_used_up, broken_track, is_track_turn, is_wire_turn, is_end_line}
+use Rattle.judging.specs.Values.{last_of, closed_of, is_used_up, broken_track, is_track_turn, is_wire_turn, is_end_line}
 use Rattle.judging.proofs.Remaining.{used_up}
+
+-- ---- the last loose line
+
+-- none stands above
+pub no_last : (n : ℕ) → is_none (last_of n) ≡ eqb n 0
+unfolding last_of
+no_last n = by_test (eqb n 0) (λ t. rw t) (λ t. rw t)
+
+-- one does
+pub some_last : (n : ℕ) → 1 ≤ n → last_of n ≡ Some n
+unfolding last_of
+some_last n h = rw (ne_eqb n 0 (λ (z : n ≡ 0). omega arith))
+
+-- a number above it
+pub above_last : (n k : ℕ) → 1 ≤ k → none_or (λ l. ltb l k) (last_of n) ≡ ltb n k
+unfolding last_of
+above_last n k h =
+    by_test (eqb n 0)
+    (λ t.
+    let z : n ≡ 0 = eqb-true n 0 t in
+    rw t (sym (lt-ltb n k (omega arith))))
+    (λ t. rw t)
 
 -- the next track in turn is one of the board
 next_track : (b : Bool) (t u k : ℕ) → (b && ltb t k && eqb u (t + 1)) ≡ (b && (eqb u (suc t) && leb u k))
@@ -39,7 +63,7 @@ closed_same (Some l) n = refl
 
 module _ (job : Job) where
   -- a line not of the form
-  pub closes_ill_formed : (n : ℕ) (st : PassState) (j : LinesJudged) (stands : List ℕ) → KeepsState job st j stands → pass_ill_formed n st ≡ broken_at (closed_of j n)
+  pub closes_ill_formed : (n : ℕ) (st : PassState) (j : LinesJudged) (stands : List (Option Track)) → KeepsState job st j stands → pass_ill_formed n st ≡ broken_at (closed_of j n)
   unfolding pass_ill_formed
   closes_ill_formed n unbegun Is.Unbegun stands k = refl
   closes_ill_formed n (running m) (Is.Running j) stands k = rw k.breach_is (closed_same j.breach n)
@@ -59,12 +83,12 @@ module _ (job : Job) where
   closed_verdict n (running m) x e = rw e
   closed_verdict n finished x e = refl
 
-  pub closes_off : (n : ℕ) (st : PassState) (x : Line) (j : LinesJudged) (stands : List ℕ) → KeepsState job st j stands → can_stand st x ≡ false →
+  pub closes_off : (n : ℕ) (st : PassState) (x : Line) (j : LinesJudged) (stands : List (Option Track)) → KeepsState job st j stands → can_stand st x ≡ false →
       KeepsStep job (pass_line job n st x) (Err (closed_of j n)) stands
   closes_off n st x j stands k e = rw (closed_verdict n st x e) (closes_ill_formed n st j stands k)
 
   -- only the opening line can stand where `(layout` does not stand above, and none behind `)`
-  pub idle_off : (n : ℕ) (st : PassState) (x : Line) (j : LinesJudged) (stands : List ℕ) → is_opening x ≡ false → ((i : LinesAbove) → j ≡ Is.Running i → ⊥) →
+  pub idle_off : (n : ℕ) (st : PassState) (x : Line) (j : LinesJudged) (stands : List (Option Track)) → is_opening x ≡ false → ((i : LinesAbove) → j ≡ Is.Running i → ⊥) →
       KeepsState job st j stands → KeepsStep job (pass_line job n st x) (Err n) stands
   unfolding can_stand
   idle_off n unbegun x Is.Unbegun stands o d k = closes_off n unbegun x Is.Unbegun stands k o
@@ -78,23 +102,23 @@ module _ (job : Job) where
   end_not_opening closes e = refl
   end_not_opening x e = absurd (false≢true e)
 
-  pub end_idle : (n : ℕ) (st : PassState) (x : Line) (j : LinesJudged) (stands : List ℕ) → is_end_line x ≡ true → ((i : LinesAbove) → j ≡ Is.Running i → ⊥) →
+  pub end_idle : (n : ℕ) (st : PassState) (x : Line) (j : LinesJudged) (stands : List (Option Track)) → is_end_line x ≡ true → ((i : LinesAbove) → j ≡ Is.Running i → ⊥) →
       KeepsState job st j stands → KeepsStep job (pass_line job n st x) (Err n) stands
   end_idle n st x j stands e = idle_off n st x j stands (end_not_opening x e)
 
   -- ---- which line can stand there, on values
 
-  module _ (k : ℕ) (is : job.board.tracks ≡ k) (j : LinesAbove) (stands : List ℕ) where
+  module _ (k : ℕ) (is : job.board.tracks ≡ k) (j : LinesAbove) (stands : List (Option Track)) where
     pub track_place : (st : PassState) (u s : ℕ) → KeepsState job st (Is.Running j) stands → is_track_turn k j u ≡ can_stand st (track u s)
     unfolding can_stand is_in_turn ends_track
     track_place unbegun u s h = absurd h
-    track_place (running m) u s h = rw (h.last_is, h.track_is, is) (next_track (eqb j.last 0) j.track.0 u k)
+    track_place (running m) u s h = rw (← h.last_is, no_last m.last, h.track_is, is) (next_track (eqb m.last 0) j.track.0 u k)
     track_place finished u s h = absurd h
 
     pub wire_place : (st : PassState) (w : Wire) → KeepsState job st (Is.Running j) stands → is_wire_turn k j ≡ can_stand st (wire w)
     unfolding can_stand is_in_turn
     wire_place unbegun w h = absurd h
-    wire_place (running m) w h = rw (h.last_is, h.track_is, is)
+    wire_place (running m) w h = rw (← h.last_is, no_last m.last, h.track_is, is)
     wire_place finished w h = absurd h
 
     loose_place : (st : PassState) (i : ℕ) → KeepsState job st (Is.Running j) stands → eqb j.track.0 k ≡ can_stand st (loose i)
@@ -126,7 +150,7 @@ module _ (job : Job) where
 
   -- ---- the wires of a track end
 
-  module _ (m : Summary) (j : LinesAbove) (stands : List ℕ) (h : KeepsSummary job m j stands) (x : PassStep) where
+  module _ (m : Summary) (j : LinesAbove) (stands : List (Option Track)) (h : KeepsSummary job m j stands) (x : PassStep) where
     judged_as : judged_track m x ≡ unless_breach (broken_track j) x
     unfolding judged_track unless_breach
     judged_as = rw (← used_up m.printed m.sum, h.remaining_is, h.line_is, h.breach_is) (by_test (is_used_up j.remaining) (λ t. rw t) (λ t. rw t))
@@ -147,10 +171,3 @@ unbroken j e =
     by_test (is_used_up j.remaining)
     (λ t. rw t at e)
     (λ t. let f : Some j.line ≡ None = rw t at e in let z : ◌≡◌ {A = ℕ} 0 1 = cc in absurd (omega arith))
-
--- the track of a wire that can stand is one of the board
-pub wire_range : (k : ℕ) (j : LinesAbove) → is_wire_turn k j ≡ true → (1 ≤ j.track.0) × (j.track.0 ≤ k)
-wire_range k j t =
-    let a = and_split (eqb j.last 0 && leb 1 j.track.0) (leb j.track.0 k) t in
-    let b = and_split (eqb j.last 0) (leb 1 j.track.0) a.0 in
-    (leb-true 1 j.track.0 b.1, leb-true j.track.0 k a.1)

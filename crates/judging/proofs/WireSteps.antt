@@ -1,13 +1,13 @@
 -- What is kept behind a wire, by value, is what the pass keeps behind it: one that draws its net, and one that draws no placement of it.
 -- Assumes nothing.
-use Prim.Native.Nat.{ℕ, ◌+◌, ◌-◌, ◌≤◌}
-use mathlib.Core.Path.{◌≡◌, refl, sym, ap, ap₂, subst, ◌∙◌}
+use Prim.Native.Nat.{ℕ, ◌+◌, ◌-◌}
+use mathlib.Core.Path.{◌≡◌, refl, sym, ap, ap₂, ◌∙◌}
 use mathlib.Core.Bool.{Bool, true, false, false≢true}
 use Rattle.std.specs.Prelude.{Option, None, Some}
 use mathlib.Core.List.{List}
 use native.Mathlib.Omega.{arith}
-use lib.ListN.{get_or, set}
-use borrow.Author.Tests.{eqb-true}
+use lib.ListN.{set}
+use Rattle.board.specs.declared.Track.{Track}
 use Rattle.board.specs.Job.{Job}
 use Rattle.board.specs.Length.{span, extra}
 use Rattle.board.specs.Weight.{weight}
@@ -18,7 +18,7 @@ use Rattle.sound.specs.Wires.{weight_of}
 use Rattle.drc.specs.Pass.{Summary, add_wire, is_next_wire, lowest_of, breach_after}
 use Rattle.judging.specs.declared.LinesAbove.{LinesAbove}
 use Rattle.judging.specs.declared.found.WireDrawn.{WireDrawn}
-use Rattle.judging.specs.Judged.{NetLines, KeepsSummary}
+use Rattle.judging.specs.Judged.{KeepsSummary}
 use Rattle.judging.specs.Values.{remaining_of, remaining_after, is_next_at, NetIs, MapOf}
 use Rattle.judging.proofs.Remaining.{remaining_more}
 use Rattle.judging.proofs.Rows.{lowest_row}
@@ -51,12 +51,12 @@ module _ (job : Job) (n : ℕ) (s : Summary) (w : Wire) (j : LinesAbove) where
   }
 
   -- what remains of the sum behind it
-  remains : (before : List ℕ) (more : ℕ) → weight_of job w.number ≡ more → KeepsSummary job s j before →
+  remains : (before : List (Option Track)) (more : ℕ) → weight_of job w.number ≡ more → KeepsSummary job s j before →
       remaining_of s.printed (s.sum + weight_of job w.number) ≡ remaining_after j.remaining more
   remains before more v h = sym (remaining_more s.printed s.sum (weight_of job w.number)) ∙ ap₂ remaining_after h.remaining_is v
 
   -- that draws no placement of its net
-  pub undrawn_added : (before after : List ℕ) (more : ℕ) → weight_of job w.number ≡ more → KeepsSummary job s j before →
+  pub undrawn_added : (before after : List (Option Track)) (more : ℕ) → weight_of job w.number ≡ more → KeepsSummary job s j before →
       KeepsSummary job (add_wire job n w None s) (behind_wire more j.lowest.0 (breach_after j.breach n false)) after
   unfolding is_next_wire lowest_of
   undrawn_added before after more v h =
@@ -70,8 +70,8 @@ module _ (job : Job) (n : ℕ) (s : Summary) (w : Wire) (j : LinesAbove) where
         lines_are = λ z. absurd (false≢true (no_breach j.breach n false z).1);
       }
 
-  module _ (a : AcceptedJob job) (drawn : WireDrawn) (is : NetIs job drawn.found) (numbered : drawn.found.net.net.number ≡ w.number) (words stands : List ℕ)
-      (blocks : MapOf job j.track.0 words) (begun : 1 ≤ j.track.0) where
+  module _ (a : AcceptedJob job) (drawn : WireDrawn) (is : NetIs job drawn.found) (numbered : drawn.found.net.net.number ≡ w.number) (words : List ℕ) (stands : List (Option Track))
+      (blocks : MapOf job j.track.0 words) where
     abbrev next : Bool
     next = is_next_at words stands drawn j
 
@@ -79,14 +79,11 @@ module _ (job : Job) (n : ℕ) (s : Summary) (w : Wire) (j : LinesAbove) where
     abbrev placed : Placement
     placed = placement_at drawn.found.net.net drawn.wired.shape drawn.wired.top.0
 
-    new_net : next ≡ true → get_or stands drawn.found.index 0 ≡ 0
-    new_net t = eqb-true (get_or stands drawn.found.index 0) 0 (next_new words stands drawn j t)
-
     -- that draws its net
     drawn_added : KeepsSummary job s j stands →
         KeepsSummary job (add_wire job n w (Some placed) s)
         (behind_wire (weight drawn.found.net.net) (drawn.wired.top.0 + span drawn.found.net.net + extra drawn.wired.shape) (breach_after j.breach n next))
-        (set stands drawn.found.index j.track.0)
+        (set stands drawn.found.index (Some j.track))
     unfolding lowest_of
     drawn_added h =
         let on : j.track.0 ≡ s.track = sym h.track_is in
@@ -102,13 +99,12 @@ module _ (job : Job) (n : ℕ) (s : Summary) (w : Wire) (j : LinesAbove) where
               (λ z. next_same job a s stands (h.lines_are z) words drawn j is (rw on at blocks) on (sym h.lowest_is)));
           lines_are = λ z.
               let p = no_breach j.breach n next z in
-              subst (λ (t : ℕ). NetLines job (add_wire job n w (Some placed) s) (set stands drawn.found.index t)) h.track_is
-              (line_added job a s (add_wire job n w (Some placed) s) stands drawn.found.index w.number refl refl refl
-              is.index_range (ap (λ q. q.number) is.net_is ∙ numbered) (new_net p.1) (omega (arith, begun, on)) (h.lines_are p.0));
+              line_added job a s (add_wire job n w (Some placed) s) stands drawn.found.index w.number j.track refl refl refl h.track_is
+              is.index_range (ap (λ q. q.number) is.net_is ∙ numbered) (next_new words stands drawn j p.1) (h.lines_are p.0);
         }
 
     -- the same of what the code works out
     pub drawn_kept : (lowest : ℕ) (breach : Option ℕ) → lowest ≡ drawn.wired.top.0 + covered drawn.found.net.net drawn.wired.shape - 1 →
         breach ≡ breach_after j.breach n next → KeepsSummary job s j stands →
-        KeepsSummary job (add_wire job n w (Some placed) s) (behind_wire (weight drawn.found.net.net) lowest breach) (set stands drawn.found.index j.track.0)
+        KeepsSummary job (add_wire job n w (Some placed) s) (behind_wire (weight drawn.found.net.net) lowest breach) (set stands drawn.found.index (Some j.track))
     drawn_kept lowest breach f g h = rw (f ∙ lowest_row drawn.wired.top.0 drawn.found.net.net drawn.wired.shape, g) (drawn_added h)

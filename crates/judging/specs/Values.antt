@@ -1,5 +1,5 @@
 -- The tests of a line worked out on values: on the index of a net, the block map of a track and the track line above the line of each net.
-use Rattle.std.specs.Prelude.{ℕ, ◌+◌, ◌-◌, ◌<◌, ◌≡◌, Bool, true, false, cond, not, ◌&&◌, List, position, eqb, leb, ltb, length, get_or, Option, None, Some, unwrap_or}
+use Rattle.std.specs.Prelude.{ℕ, ◌+◌, ◌-◌, ◌<◌, ◌≡◌, Bool, true, false, cond, ◌&&◌, List, position, eqb, leb, ltb, length, get_or, Option, None, Some, is_none, unwrap_or}
 use Rattle.board.specs.declared.BoardNet.{BoardNet}
 use Rattle.board.specs.declared.Net.{Net}
 use Rattle.board.specs.declared.Shape.{Shape}
@@ -10,7 +10,7 @@ use Rattle.board.specs.Placement.{covered}
 use Rattle.board.specs.Stored.{no_net}
 pub use Rattle.blockmap.specs.Bits.{MapOf}
 use Rattle.blockmap.specs.Clear.{all_unset}
-use Rattle.candidates.specs.Placed.{before_in}
+use Rattle.candidates.specs.Placed.{before_in, none_or}
 use Rattle.layout.specs.Tree.{Line, loose, closes}
 use Rattle.judging.specs.declared.LinesAbove.{LinesAbove}
 use Rattle.judging.specs.declared.LinesJudged.{LinesJudged}
@@ -30,16 +30,20 @@ position_numbered k ns = position (is_numbered k) ns
 unfoldable pub is_allowed : BoardNet → Shape → Bool
 is_allowed n s = leb n.net.min (length_of n.board n.net s) && leb (length_of n.board n.net s) n.net.max
 
+-- a line stands above, and under the line of a track before `track`: `stood` is the track under whose line it stands
+abbrev pub is_under : ℕ → Option Track → Bool
+is_under track None = false
+is_under track (Some t) = ltb t.0 track
+
 -- the net that precedes, if there is one, has its line on an earlier track than `track`
-abbrev pub ready_at : Option ℕ → List ℕ → ℕ → Bool
-ready_at None stands track = true
-ready_at (Some i) stands track = not (eqb (get_or stands i 0) 0) && ltb (get_or stands i 0) track
+abbrev pub ready_at : Option ℕ → List (Option Track) → Track → Bool
+ready_at before stands track = none_or (λ i. is_under track.0 (get_or stands i None)) before
 
 -- a wire that draws its net may stand below the lines that j keeps
-unfoldable pub is_next_at : List ℕ → List ℕ → WireDrawn → LinesAbove → Bool
+unfoldable pub is_next_at : List ℕ → List (Option Track) → WireDrawn → LinesAbove → Bool
 is_next_at words stands w j =
-    is_allowed w.found.net w.wired.shape && all_unset words w.wired.top.0 (covered w.found.net.net w.wired.shape) && eqb (get_or stands w.found.index 0) 0 &&
-    ready_at w.found.before stands j.track.0 && ltb j.lowest.0 w.wired.top.0
+    is_allowed w.found.net w.wired.shape && all_unset words w.wired.top.0 (covered w.found.net.net w.wired.shape) && is_none (get_or stands w.found.index None) &&
+    ready_at w.found.before stands j.track && ltb j.lowest.0 w.wired.top.0
 
 -- the track of the last track line, 0 where no track is judged
 abbrev pub track_of : LinesJudged → Track
@@ -52,6 +56,10 @@ abbrev pub closed_of : LinesJudged → ℕ → ℕ
 closed_of Is.Unbegun n = n
 closed_of (Is.Running j) n = unwrap_or j.breach n
 closed_of Is.Finished n = n
+
+-- the number of the last loose line, if one stands above, where `last` is 0 if none does
+unfoldable pub last_of : ℕ → Option ℕ
+last_of last = cond (eqb last 0) None (Some last)
 
 -- what remains of a printed sum where the wires so far add up to `sum`; none where they add up to more
 unfoldable pub remaining_of : ℕ → ℕ → Option ℕ
@@ -73,11 +81,11 @@ broken_track j = cond (is_used_up j.remaining) j.breach (Some j.line)
 
 -- the line of track u can stand behind the lines that j keeps, on a board with k tracks
 abbrev pub is_track_turn : ℕ → LinesAbove → ℕ → Bool
-is_track_turn k j u = eqb j.last 0 && ltb j.track.0 k && eqb u (j.track.0 + 1)
+is_track_turn k j u = is_none j.last && ltb j.track.0 k && eqb u (j.track.0 + 1)
 
 -- a wire can stand behind the lines that j keeps, on a board with k tracks
 abbrev pub is_wire_turn : ℕ → LinesAbove → Bool
-is_wire_turn k j = eqb j.last 0 && leb 1 j.track.0 && leb j.track.0 k
+is_wire_turn k j = is_none j.last && leb 1 j.track.0 && leb j.track.0 k
 
 -- a loose line, or the closing line: one that stands behind the last track
 abbrev pub is_end_line : Line → Bool

@@ -5,9 +5,11 @@ mod found;
 pub mod nets;
 pub mod wires;
 
-ghost use Rattle.std.specs.Prelude.{◌≡◌, ◌≢◌, ◌↔◌, IsTrue, slice_index, List, ℕ, ◌≤◌, ◌<◌, eqb, length, unwrap_or, true, None, IfOk, IfErr, IfSome, MatchResult, Err};
+ghost use Rattle.std.specs.Prelude.{◌≡◌, ◌↔◌, IsTrue, Option, is_some, get_or, List, ℕ, ◌≤◌, ◌<◌, eqb, ltb, length, unwrap_or, true, None, IfOk, IfErr, IfSome, MatchResult, Err};
 ghost use Rattle.board.specs.Job.{Job};
 ghost use Rattle.board.specs.Accepted.{AcceptedJob};
+ghost use Rattle.board.specs.declared.Track as B;
+ghost use Rattle.candidates.specs.Placed.{none_or};
 ghost use Rattle.layout.specs.Tree as Tree;
 ghost use Rattle.layout.specs.Tree.{Line, opens, loose, closes};
 ghost use Rattle.drc.specs.Pass.{PassState, pass_line};
@@ -20,15 +22,15 @@ pub use found::{NetFound, WireDrawn};
 
 // What is kept of the lines above, where `(layout` stands above and `)` does not: the last track line, its track, its line, and what remains
 // of the sum that it prints, if its wires so far don't add up to more; the lowest row of the last wire drawn on the track; the number of the
-// last loose line; and the line of the first broken wire of the track. The track, the row and the number are 0 where there is none, which is
-// below each that can follow.
+// last loose line, if one stands above; and the line of the first broken wire of the track. The track and the row are 0 where there is none,
+// which is below each that can follow.
 #[derive(Clone, Copy)]
 pub struct LinesAbove {
     pub track: Track,
     pub line: usize,
     pub remaining: Option<usize>,
     pub lowest: Row,
-    pub last: usize,
+    pub last: Option<usize>,
     pub breach: Option<usize>,
 }
 
@@ -44,11 +46,11 @@ pub enum LinesJudged {
 }
 
 // Whether each of the first `count` nets has a line above.
-pub fn all_lined(stands: &[usize; 512], count: usize) -> bool
+pub fn all_lined(stands: &[Option<Track>; 512], count: usize) -> bool
     requires { count ≤ 512 }
-    ensures { IsTrue result ↔ ((k : ℕ) → k < count → slice_index stands.now k ≢ 0) }
+    ensures { IsTrue result ↔ ((k : ℕ) → k < count → is_some (get_or stands.now k None) ≡ true) }
 {
-    stands[..count].iter().all(|track| *track != 0)
+    stands[..count].iter().all(|track| track.is_some())
 }
 
 impl LinesAbove {
@@ -77,14 +79,21 @@ impl LinesAbove {
     fn is_track_turn(self, tracks: usize, track: Track) -> bool
         ensures { result ≡ is_track_turn tracks self track.0 }
     {
-        self.last == 0 && self.track.0 < tracks && track.0 == self.track.0 + 1
+        self.last.is_none() && self.track.0 < tracks && track.0 == self.track.0 + 1
     }
 
     // Whether a wire can stand behind the lines above, on a board with so many tracks.
     pub fn is_wire_turn(self, tracks: usize) -> bool
         ensures { result ≡ is_wire_turn tracks self }
     {
-        self.last == 0 && 1 <= self.track.0 && self.track.0 <= tracks
+        self.last.is_none() && 1 <= self.track.0 && self.track.0 <= tracks
+    }
+
+    // Whether the number of a loose line is above that of the last one, if one stands above.
+    fn is_above_last(self, number: usize) -> bool
+        ensures { result ≡ none_or (λ l. ltb l number) self.last }
+    {
+        self.last.is_none_or(|last| last < number)
     }
 
     // Whether a loose line or the closing line can stand behind the lines above, on a board with so many tracks.
@@ -119,7 +128,7 @@ impl LinesJudged {
 
     // What the opening line leads to.
     pub fn take_opening(self, line: usize) -> Result<LinesJudged, usize>
-        ensures keeps_step { (job : Job) (st : PassState) (stands : List ℕ) → KeepsState job st self stands → KeepsStep job (pass_line job line st opens) result stands }
+        ensures keeps_step { (job : Job) (st : PassState) (stands : List (Option B.Track)) → KeepsState job st self stands → KeepsStep job (pass_line job line st opens) result stands }
         ensures track { IfOk result (λ m. (track_of m).0 ≡ 0) }
     {
         match self {
@@ -128,7 +137,7 @@ impl LinesJudged {
                 line: 0,
                 remaining: Some(0),
                 lowest: Row(0),
-                last: 0,
+                last: None,
                 breach: None,
             })),
             LinesJudged::Running(above) => Err(above.closed(line)),
@@ -144,7 +153,7 @@ impl LinesJudged {
         track: Track,
         printed: usize,
     ) -> Result<LinesJudged, usize>
-        ensures keeps_step { (job : Job) (st : PassState) (stands : List ℕ) → job.board.tracks ≡ tracks → KeepsState job st self stands → KeepsStep job (pass_line job line st (Tree.track track.0 printed)) result stands }
+        ensures keeps_step { (job : Job) (st : PassState) (stands : List (Option B.Track)) → job.board.tracks ≡ tracks → KeepsState job st self stands → KeepsStep job (pass_line job line st (Tree.track track.0 printed)) result stands }
         ensures track { IfOk result (λ m. ((track_of m).0 ≡ track.0) × (track.0 ≤ tracks)) }
     {
         let LinesJudged::Running(above) = self else {
@@ -167,7 +176,7 @@ impl LinesJudged {
     // What is kept of the lines above, where a loose line or the closing line can stand below them and the last track is not broken.
     fn ended(self, tracks: usize, line: usize) -> Result<LinesAbove, usize>
         ensures running { IfOk result (λ j. (self ≡ Running j) × (eqb j.track.0 tracks ≡ true) × (broken_track j ≡ None)) }
-        ensures keeps_step { IfErr result (λ l. (job : Job) (st : PassState) (x : Line) (stands : List ℕ) → is_end_line x ≡ true → job.board.tracks ≡ tracks → KeepsState job st self stands → KeepsStep job (pass_line job line st x) (Err l) stands) }
+        ensures keeps_step { IfErr result (λ l. (job : Job) (st : PassState) (x : Line) (stands : List (Option B.Track)) → is_end_line x ≡ true → job.board.tracks ≡ tracks → KeepsState job st self stands → KeepsStep job (pass_line job line st x) (Err l) stands) }
     {
         let LinesJudged::Running(above) = self else {
             return Err(line);
@@ -186,7 +195,7 @@ impl LinesJudged {
         line: usize,
         number: usize,
         index: Option<usize>,
-        stands: &mut [usize; 512],
+        stands: &mut [Option<Track>; 512],
     ) -> Result<LinesJudged, usize>
         requires { IfSome index (λ i. i < 512) }
         ensures keeps_step { (job : Job) (st : PassState) → AcceptedJob job → job.board.tracks ≡ tracks → index ≡ position_numbered number job.nets → KeepsState job st self stands.old → KeepsStep job (pass_line job line st (loose number)) result stands.new }
@@ -196,12 +205,12 @@ impl LinesJudged {
         let Some(index) = index else {
             return Err(line);
         };
-        if stands[index] != 0 || number <= above.last {
+        if stands[index].is_some() || !above.is_above_last(number) {
             return Err(line);
         }
-        stands[index] = above.track.0;
+        stands[index] = Some(above.track);
         Ok(LinesJudged::Running(LinesAbove {
-            last: number,
+            last: Some(number),
             ..above
         }))
     }
@@ -211,7 +220,7 @@ impl LinesJudged {
         self,
         tracks: usize,
         line: usize,
-        stands: &[usize; 512],
+        stands: &[Option<Track>; 512],
         count: usize,
     ) -> Result<LinesJudged, usize>
         requires { count ≤ 512 }

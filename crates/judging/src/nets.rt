@@ -15,7 +15,8 @@ pub fn numbers_of(job: &Job) -> [usize; 512]
     numbers
 }
 
-// The index of the net with a number, if a net has it.
+// The index of the net with a number, if a net has it. Not inlined: its loop would count up a place in each table that the index is used for.
+#[inline(never)]
 pub fn net_index(numbers: &[usize; 512], count: usize, number: usize) -> Option<usize>
     requires { count ≤ 512 }
     ensures first { result ≡ position (λ n. n == number) (take count numbers.now) }

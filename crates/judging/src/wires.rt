@@ -1,9 +1,10 @@
 // A wire judged: whether it may stand below the lines above, and what it leads to.
-ghost use Rattle.std.specs.Prelude.{◌≡◌, List, ℕ, ◌+◌, ◌≤◌, ◌<◌, IfSome};
+ghost use Rattle.std.specs.Prelude.{◌≡◌, List, ℕ, Option, ◌+◌, ◌≤◌, ◌<◌, IfSome};
 ghost use Rattle.board.specs.Job.{Job};
 ghost use Rattle.board.specs.Length.{extra};
 ghost use Rattle.board.specs.Placement.{placement_at};
 ghost use Rattle.board.specs.Accepted.{AcceptedJob};
+ghost use Rattle.board.specs.declared.Track as B;
 ghost use Rattle.blockmap.specs.Clear.{all_unset};
 ghost use Rattle.layout.specs.Tree.{Wire};
 ghost use Rattle.sound.specs.Wires.{weight_of};
@@ -33,14 +34,11 @@ pub fn is_allowed(net: BoardNet, shape: Shape) -> bool
 }
 
 // Whether the net that precedes a net, if one does, has its line on an earlier track.
-pub fn is_ready(before: Option<usize>, stands: &[usize; 512], track: Track) -> bool
+pub fn is_ready(before: Option<usize>, stands: &[Option<Track>; 512], track: Track) -> bool
     requires { IfSome before (λ i. i < 512) }
-    ensures { result ≡ ready_at before stands.now track.0 }
+    ensures { result ≡ ready_at before stands.now track }
 {
-    match before {
-        Some(index) => stands[index] != 0 && stands[index] < track.0,
-        None => true,
-    }
+    before.is_none_or(|i| stands[i].is_some_and(|t| t < track))
 }
 
 // The line of the first broken wire of a track behind one more wire, if one is broken.
@@ -69,7 +67,7 @@ impl LinesAbove {
         self,
         wire: WireDrawn,
         words: &'a [u64; 16],
-        stands: &'a [usize; 512],
+        stands: &'a [Option<Track>; 512],
     ) -> bool
         ensures { result ≡ is_next_at words.now stands.now wire self }
     {
@@ -77,14 +75,14 @@ impl LinesAbove {
         let wired = wire.wired;
         is_allowed(found.net, wired.shape)
             && rows_clear(words, wired.top, found.net.net.covered(wired.shape))
-            && stands[found.index] == 0
+            && stands[found.index].is_none()
             && is_ready(found.before, stands, self.track)
             && self.lowest.0 < wired.top.0
     }
 
     // What is kept behind a wire that draws no placement of its net, where a wire can stand: it is broken, and counts by its number.
     pub fn add_undrawn(self, line: usize, weight: usize) -> LinesAbove
-        ensures keeps_summary { (job : Job) (s : Summary) (w : Wire) (before after : List ℕ) → weight_of job w.number ≡ weight → KeepsSummary job s self before → KeepsSummary job (add_wire job line w None s) result after }
+        ensures keeps_summary { (job : Job) (s : Summary) (w : Wire) (before after : List (Option B.Track)) → weight_of job w.number ≡ weight → KeepsSummary job s self before → KeepsSummary job (add_wire job line w None s) result after }
         ensures track { result.track ≡ self.track }
     {
         LinesAbove {
@@ -99,16 +97,16 @@ impl LinesAbove {
         self,
         wire: WireDrawn,
         words: &[u64; 16],
-        stands: &mut [usize; 512],
+        stands: &mut [Option<Track>; 512],
         line: usize,
     ) -> LinesAbove
-        ensures keeps_summary { (job : Job) (s : Summary) (w : Wire) → AcceptedJob job → NetIs job wire.found → wire.found.net.net.number ≡ w.number → MapOf job self.track.0 words.now → 1 ≤ self.track.0 → KeepsSummary job s self stands.old → KeepsSummary job (add_wire job line w (Some (placement_at wire.found.net.net wire.wired.shape wire.wired.top.0)) s) result stands.new }
+        ensures keeps_summary { (job : Job) (s : Summary) (w : Wire) → AcceptedJob job → NetIs job wire.found → wire.found.net.net.number ≡ w.number → MapOf job self.track.0 words.now → KeepsSummary job s self stands.old → KeepsSummary job (add_wire job line w (Some (placement_at wire.found.net.net wire.wired.shape wire.wired.top.0)) s) result stands.new }
         ensures track { result.track ≡ self.track }
     {
         let found = wire.found;
         let wired = wire.wired;
         let passed = self.may_stand(wire, words, stands);
-        stands[found.index] = self.track.0;
+        stands[found.index] = Some(self.track);
         let rows = found.net.net.covered(wired.shape);
         LinesAbove {
             remaining: remaining_after(self.remaining, found.net.net.weight),

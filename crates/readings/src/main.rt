@@ -1,14 +1,28 @@
 // Reads texts on standard input, each ended by byte 255, and prints for each what it is read as, on a line of its own.
 #![tactic(auto)]
 
+ghost use Rattle.std.specs.Prelude.{replicate};
+ghost use Rattle.jobfile.specs.Read.{read_job};
+ghost use Rattle.reader.specs.Reports.{report_text};
+ghost use Rattle.text.specs.Written.{Written};
+
+use files::buffer::TextBuffer;
 use texts::{Input, Texts};
+
+// What a text is read as, in a line to print.
+#[tactic(auto, using(files::proofs::Reading::written_prefix))]
+fn print_reading(text: &[u8]) -> TextBuffer<32>
+    ensures { Written (report_text (read_job text.now)) (replicate 32 0) result.bytes result.used }
+{
+    let mut bytes = [0u8; 32];
+    let used = reader::report::report(text, &mut bytes);
+    TextBuffer { bytes, used }
+}
 
 // Prints what each text on standard input is read as. A failure to print is passed over.
 fn main(rt: HostRuntime) {
     let input: Input = files::filled_from(&mut rt.reader());
     for text in Texts::new(input.text()) {
-        let mut line = [0u8; 32];
-        let used = reader::report::report(text, &mut line);
-        let _ = rt.write_all(&line[..used]);
+        let _ = rt.write_all(print_reading(text).text());
     }
 }

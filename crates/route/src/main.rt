@@ -2,5 +2,5 @@
 #![tactic(auto)]
 
 fn main(rt: HostRuntime) {
-    jobinput::route_input(&rt);
+    jobinput::print_input::<printing::Route>(&rt);
 }

@@ -1,8 +1,8 @@
 -- The line of a broken layout: its parts and its length. Assumes nothing.
 use Rattle.std.specs.Prelude.{Err}
-use Prim.Native.Nat.{ℕ, zero, suc, ◌+◌, ◌<◌}
+use Prim.Native.Nat.{ℕ, zero, suc, ◌+◌}
 use mathlib.Core.Path.{◌≡◌, refl, ap, ◌∙◌}
-use mathlib.Core.Bool.{Bool, true, false}
+use mathlib.Core.Bool.{Bool}
 use mathlib.Core.List.{List, [], ◌∷◌, ◌++◌, append_assoc}
 use native.Mathlib.Omega.{arith}
 use lib.ListN.{length, length-append}
@@ -11,7 +11,7 @@ use Rattle.text.specs.Written.{Written}
 use Rattle.reader.specs.Reports.{refused_text}
 use Rattle.checker.specs.declared.CheckError.{CheckError}
 use Rattle.checker.specs.declared.CheckError.TheVariants.{Refused, LayoutTooLong, Broken}
-use Rattle.jobfile.proofs.RefusalNumbers.{number_above, number_below}
+use Rattle.jobfile.proofs.RefusalNumbers.{number_above}
 use Rattle.checker.specs.Answers.{check_values}
 use Rattle.verdicts.specs.Verdicts.{broken_text, verdict_line, check_text}
 
@@ -40,19 +40,13 @@ refusal_line (suc n) b l h = refl
 pub written_as : {v w s t : List ℕ} {r : ℕ} → v ≡ w → Written v s t r → Written w s t r
 written_as e x = rw e at x
 
--- what is no broken layout is refused with a number, of at most two digits
-refused_number : (e : CheckError) → (check_values (Err e)).broken ≡ false → ((check_values (Err e)).number ≡ 0 → ⊥) × ((check_values (Err e)).number < 100)
-refused_number (Refused o) f = (λ z. omega (arith, z, number_above o), omega (arith, number_below o))
-refused_number LayoutTooLong f = (λ z. omega arith, omega arith)
-refused_number (Broken l) f = cc
+-- what is no broken layout is refused with a number
+refused_number : (e : CheckError) → ((l : ℕ) → e ≡ Broken l → ⊥) → (check_values (Err e)).number ≡ 0 → ⊥
+refused_number (Refused o) d = λ z. omega (arith, z, number_above o)
+refused_number LayoutTooLong d = λ z. omega (arith, z)
+refused_number (Broken l) d = absurd (d l refl)
 
--- what is printed where the layout is broken, and where there is a refusal
-pub broken_is : (e : CheckError) {l : ℕ} → (check_values (Err e)).broken ≡ true → l ≡ (check_values (Err e)).line → broken_text l ≡ check_text (Err e)
-unfolding verdict_line
-broken_is (Refused o) f g = cc
-broken_is LayoutTooLong f g = cc
-broken_is (Broken m) f g = ap broken_text g
-
-pub refused_is : (e : CheckError) {n l : ℕ} → (check_values (Err e)).broken ≡ false → n ≡ (check_values (Err e)).number → l ≡ (check_values (Err e)).line →
+-- what is printed where there is a refusal
+pub refused_is : (e : CheckError) {n l : ℕ} → ((k : ℕ) → e ≡ Broken k → ⊥) → n ≡ (check_values (Err e)).number → l ≡ (check_values (Err e)).line →
     refused_text n l ≡ check_text (Err e)
-refused_is e f g h = rw (g, h) (refusal_line _ _ _ (refused_number e f).0)
+refused_is e d g h = rw (g, h) (refusal_line _ _ _ (refused_number e d))

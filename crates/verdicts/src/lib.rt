@@ -29,14 +29,12 @@ fn put_verdict(out: &mut [u8], verdict: Result<(), CheckError>) -> usize
     requires { 64 ≤ length out.old }
     ensures { Written (check_text verdict) out.old out.new result }
 {
-    match verdict {
-        Ok(()) => text::put_bytes(out, b"(sound)\n"),
-        Err(error) => {
-            if error.is_broken() {
-                return put_broken(out, error.line());
-            }
-            reader::report::put_refusal(out, error.number(), error.line())
-        }
+    let Err(error) = verdict else {
+        return text::put_bytes(out, b"(sound)\n");
+    };
+    match error {
+        CheckError::Broken(line) => put_broken(out, line),
+        _ => reader::report::put_refusal(out, error.number(), error.line()),
     }
 }
 

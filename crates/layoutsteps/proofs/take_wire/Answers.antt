@@ -5,7 +5,7 @@ use Rattle.board.specs.Weight.{weight}
 use Rattle.layout.specs.Tree.{wire}
 use Rattle.drc.specs.Judge.{is_opening}
 use Rattle.judging.specs.declared.LinesJudged.TheVariants.{Running}
-use Rattle.judging.proofs.Turns.{idle_off, closes_off, wire_place, wire_range}
+use Rattle.judging.proofs.Turns.{idle_off, closes_off, wire_place}
 use Rattle.judging.proofs.Steps.{wire_taken}
 use Rattle.layoutsteps.proofs.WireLines.{place_none, drawn_at, unknown_undrawn, unknown_weight, found_number, known_weight, known_drawn}
 use Rattle.layoutsteps.proofs.take_wire.Goals as goal
@@ -60,8 +60,7 @@ returns-in-Some-drawn_place-clause-keeps_step c =
     let is = ap (λ (b : Board). b.tracks) (sym c.board-board.ensures.board) in
     let j = c.in-Running.above in
     let h = rw c.in-Running.is at k in
-    let on = sym c.is_wire_turn.ensures ∙ c.if-not-is_wire_turn.false in
-    let turn = sym (wire_place job c.board-board.result.tracks is j a.stands.now st w h) ∙ on in
+    let turn = sym (wire_place job c.board-board.result.tracks is j a.stands.now st w h) ∙ sym c.is_wire_turn.ensures ∙ c.if-not-is_wire_turn.false in
     let n = c.in-Some.found in
     let g = rw c.in-Some.is at f in
     let blocks = rw c.in-Running.is at map in
@@ -69,7 +68,7 @@ returns-in-Some-drawn_place-clause-keeps_step c =
     let at = drawn_at n.net.board j.track w.points n.net.net c.in-Some-drawn_place.wired (c.in-Some-drawn_place.ensures w rd (sym number)) in
     wire_taken job a.line j a.stands.now st w _ _ _ turn h
     (known_drawn job w acc n g j.track.0 ∙ at.drawn_is)
-    (λ m q. c.add_drawn-behind.ensures.keeps_summary job m w acc g.net_is number blocks (wire_range c.board-board.result.tracks j on).0 q)
+    (λ m q. c.add_drawn-behind.ensures.keeps_summary job m w acc g.net_is number blocks q)
 
 pub returns-in-None-clause-keeps_step : goal.returns-in-None-clause-keeps_step
 unfolding weight

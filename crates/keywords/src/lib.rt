@@ -1,7 +1,7 @@
 // The words of the two formats, held in tables of padded bytes and looked up by index when reading and when writing.
 #![tactic(auto)]
 
-ghost use Rattle.std.specs.Prelude.{◌≡◌, ◌+◌, ◌≤◌, ◌<◌, length, take};
+ghost use Rattle.std.specs.Prelude.{◌≡◌, ◌+◌, ◌≤◌, ◌<◌, length, get_or, take};
 ghost use Rattle.text.specs.Bytes.{same};
 ghost use Rattle.text.specs.Written.{Written, WrittenAt};
 ghost use Rattle.keywords.specs.Keywords.{words, word_of, find_word};
@@ -54,6 +54,22 @@ fn keyword_at(v: Vocabulary, i: usize) -> Keyword
         Vocabulary::Job => JOB_WORDS[i],
         Vocabulary::Layout => LAYOUT_WORDS[i],
     }
+}
+
+// The length of word i.
+pub fn word_len(v: Vocabulary, i: usize) -> usize
+    requires { i < length (words v) }
+    ensures { result ≡ length (word_of v i) }
+{
+    keyword_at(v, i).1
+}
+
+// Byte j of word i.
+pub fn word_byte(v: Vocabulary, i: usize, j: usize) -> u8
+    requires { (i < length (words v)) × (j < length (word_of v i)) }
+    ensures { result ≡ get_or (word_of v i) j 0 }
+{
+    keyword_at(v, i).0[j]
 }
 
 // Writes word i at the start of out, and returns the bytes used.

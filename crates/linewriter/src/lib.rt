@@ -28,20 +28,36 @@ pub fn number_line(out: &mut [u8], v: Vocabulary, i: usize, number: usize) -> us
     text::put_bytes_at(out, a, b")\n")
 }
 
-// Writes the first line of a text, "(word", from the place `at` on, and returns the next place.
-pub fn put_opening(out: &mut [u8], at: usize, v: Vocabulary) -> usize
-    requires { at + length (opening_text v) ≤ length out.old }
-    ensures { WrittenAt at (opening_text v) out.old out.new result }
+// Writes the first line of a text, "(word", at the start of the rest of the buffer that it is lent, and returns the bytes used.
+fn opening_line(out: &mut [u8], v: Vocabulary) -> usize
+    requires { length (opening_text v) ≤ length out.old }
+    ensures { Written (opening_text v) out.old out.new result }
 {
-    let a = text::put_bytes_at(out, at, b"(");
+    let a = text::put_bytes_at(out, 0, b"(");
     let b = keywords::put_word_at(out, a, v, 0);
     text::put_bytes_at(out, b, b"\n")
 }
 
-// Writes the last line of a text, ")", from the place `at` on, and returns the next place.
+// Writes the first line from the place `at` on, and returns the next place.
+pub fn put_opening(out: &mut [u8], at: usize, v: Vocabulary) -> usize
+    requires { at + length (opening_text v) ≤ length out.old }
+    ensures { WrittenAt at (opening_text v) out.old out.new result }
+{
+    at + opening_line(&mut out[at..], v)
+}
+
+// Writes the last line of a text, ")", at the start of the rest of the buffer that it is lent, and returns the bytes used.
+fn closing_line(out: &mut [u8]) -> usize
+    requires { length closing_text ≤ length out.old }
+    ensures { Written closing_text out.old out.new result }
+{
+    text::put_bytes(out, b")\n")
+}
+
+// Writes the last line from the place `at` on, and returns the next place.
 pub fn put_closing(out: &mut [u8], at: usize) -> usize
     requires { at + length closing_text ≤ length out.old }
     ensures { WrittenAt at closing_text out.old out.new result }
 {
-    text::put_bytes_at(out, at, b")\n")
+    at + closing_line(&mut out[at..])
 }

@@ -1,14 +1,15 @@
 -- The laws of a number that is read digit by digit, of at most six. Assumes nothing.
-use mathlib.Core.Path.{◌≡◌, ◌∙◌}
+use mathlib.Core.Path.{◌≡◌, refl, ◌∙◌}
 use mathlib.Core.Bool.{true, false, and-false}
 use mathlib.Core.List.{List}
 use Rattle.std.specs.Prelude.{None, Some}
 use Prim.Native.Nat.{ℕ, ◌+◌, ◌-◌, ◌*◌, ◌≤◌, ◌<◌, ◌^◌}
 use native.Mathlib.Omega.{arith}
 use native.Mathlib.Numerals.{add-one}
-use native.Mathlib.Nat.{pow-suc}
+use native.Mathlib.Nat.{pow-suc, pow-le-pow_right}
 use lib.ListN.{length, get_or, drop, drop_of_length-le}
 use lib.Seq.{drop-cons}
+use lib.Dec.{lit≤}
 use borrow.Author.Tests.{le-leb, lt-leb}
 use Rattle.lists.specs.Lists.{all_of}
 use Rattle.text.specs.Digits.{is_digit, value_from, number}
@@ -20,6 +21,9 @@ pub record Sofar (s : List ℕ) (v i : ℕ) : Type 0 where
   pub digits : all_of is_digit s ≡ all_of is_digit (drop i s)
   pub value : value_from 0 s ≡ value_from v (drop i s)
 
+pub sofar_none : (s : List ℕ) → Sofar s 0 0
+sofar_none s = record { within = omega arith; bound = omega arith; digits = refl; value = refl }
+
 pub sofar_more : {s : List ℕ} {v i : ℕ} → Sofar s v i → i < length s → 48 ≤ get_or s i 0 → get_or s i 0 ≤ 57 → Sofar s (v * 10 + (get_or s i 0 - 48)) (i + 1)
 unfolding all_of value_from
 sofar_more {s} {v} {i} n h a b =
@@ -29,6 +33,10 @@ sofar_more {s} {v} {i} n h a b =
       digits = n.digits ∙ rw (drop-cons s i 0 h, le-leb 48 (get_or s i 0) a, le-leb (get_or s i 0) 57 b, add-one i);
       value = n.value ∙ rw (drop-cons s i 0 h, add-one i);
     }
+
+-- no sum overflows: what is there after less than six digits is below 100,000
+pub value_fits : {s : List ℕ} {v i : ℕ} → Sofar s v i → i ≤ 5 → v < 100000
+value_fits n h = omega (arith, pow-le-pow_right {n = 10} (lit≤ tt) h)
 
 -- the answers
 

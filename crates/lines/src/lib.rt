@@ -1,7 +1,7 @@
 // Reading a text line by line and a line token by token, from a place by value that only moves on.
 #![tactic(auto)]
 
-ghost use Rattle.std.specs.Prelude.{◌≡◌, ◌≤◌, length};
+ghost use Rattle.std.specs.Prelude.{◌≡◌, Bool, ℕ, ◌≤◌, length};
 ghost use Rattle.text.specs.Bytes.{ends_word};
 ghost use Rattle.lines.specs.Places.{scan, step_at};
 ghost use Rattle.lines.specs.Scanned.{Scanned};
@@ -35,7 +35,8 @@ pub enum Token {
 pub fn scan_to<F: Fn(u8) -> bool>(s: &[u8], from: usize, stops: F) -> usize
     requires within { from ≤ length s.now }
     requires callable { F.IsAlwaysCallable stops }
-    ensures { Scanned (F.post stops) s.now from result }
+    ensures scanned { Scanned (F.post stops) s.now from result }
+    ensures exact { (f : ℕ → Bool) → ((b : ℕ) (q : Bool) → F.post stops b q → q ≡ f b) → result ≡ scan f s.now from }
 {
     let mut i = from;
     while i < s.len() && !stops(s[i]) {

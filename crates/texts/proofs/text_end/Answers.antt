@@ -7,7 +7,6 @@ use native.Mathlib.Omega.{arith}
 use borrow.Author.Rules.{rules}
 use lib.ListN.{length, drop_of_length-le}
 use Rattle.lines.specs.Places.{until, scan}
-use Rattle.lines.proofs.Scans.{scanned}
 use Rattle.texts.specs.Ends.{ends_text}
 use Rattle.texts.proofs.text_end.Goals as goal
 
@@ -21,5 +20,5 @@ returns-then-s-from c = (scan_behind ends_text c.args.s.now c.args.from (omega a
 
 pub returns : goal.returns
 returns c =
-    let w = c.scan_to.ensures in
-    (scanned ends_text c.args.s.now c.args.from c.scan_to.result (search rules) w, w.ahead, omega (arith, w.within))
+    let w = c.scan_to.ensures.scanned in
+    (c.scan_to.ensures.exact ends_text (search rules), w.ahead, omega (arith, w.within))

@@ -2,7 +2,6 @@
 use native.Mathlib.Omega.{arith}
 use borrow.Author.Rules.{rules}
 use Rattle.text.specs.Bytes.{is_end}
-use Rattle.lines.proofs.Scans.{scanned}
 use Rattle.lines.proofs.StepAnswers.{step_end, step_line}
 use Rattle.lines.proofs.Place.next_line.Goals as goal
 
@@ -13,4 +12,4 @@ pub returns : goal.returns
 returns c =
     let s = c.args.s.now in
     let p = c.args.self in
-    step_line s p c.scan_to-to.result c.min-at.result (omega arith) (scanned is_end s p.at c.scan_to-to.result (search rules) c.scan_to-to.ensures) (omega arith)
+    step_line s p c.scan_to-to.result c.min-at.result (omega arith) (c.scan_to-to.ensures.exact is_end (search rules)) (omega arith)

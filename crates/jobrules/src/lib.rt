@@ -2,10 +2,10 @@
 // above, so that no test goes through the nets.
 #![tactic(auto)]
 
-ghost use Rattle.std.specs.Prelude.{◌≡◌, List, [], ◌∷◌, ◌++◌, length};
+ghost use Rattle.std.specs.Prelude.{◌≡◌, List, [], ◌∷◌, ◌++◌, ◌<◌, length, IfOk};
 ghost use Rattle.lists.specs.Lists.{all_of};
 ghost use Rattle.board.specs.Job.{Job};
-ghost use Rattle.board.specs.Accepted.{BoardInRange};
+ghost use Rattle.board.specs.Accepted.{BoardInRange, NetInRange};
 ghost use Rattle.board.specs.Stored.{stored_of};
 ghost use Rattle.jobfile.specs.Read.{State, within, weight_in_range, net_in_range, with_weight, block_in_range, pins_free, board_of, empty_job, test_net, add_block};
 ghost use Rattle.jobrules.specs.Rules.{outcome_of, RowsInRange, PinsOf, NetsAbove};
@@ -126,7 +126,8 @@ pub fn net_outcome(
     line: usize,
 ) -> Result<(), Refusal>
     requires { BoardInRange size }
-    ensures { (job : Job) (s : State) → NetsAbove job size count used.now → result ≡ outcome_of (test_net line numbered net weight job s) }
+    ensures outcome { (job : Job) (s : State) → NetsAbove job size count used.now → result ≡ outcome_of (test_net line numbered net weight job s) }
+    ensures fits { IfOk result (λ o. (count < 512) × NetInRange size net) }
 {
     if !is_net_in_range(size, net, weight) {
         return Err(Refusal::OutOfRange(line));
@@ -156,7 +157,8 @@ pub fn net_outcome(
 
 // Refusals 3 and 4 of a block, on a board below so many blocks.
 pub fn block_outcome(size: Board, count: usize, block: Block, line: usize) -> Result<(), Refusal>
-    ensures { (job : Job) → job.board ≡ size → length job.blocks ≡ count → result ≡ outcome_of (add_block line block job) }
+    ensures outcome { (job : Job) → job.board ≡ size → length job.blocks ≡ count → result ≡ outcome_of (add_block line block job) }
+    ensures fits { IfOk result (λ o. count < 256) }
 {
     if !is_block_in_range(size, block) {
         return Err(Refusal::OutOfRange(line));

@@ -6,12 +6,13 @@ use mathlib.Core.List.{List, [], ◌∷◌, ◌++◌}
 use native.Mathlib.Omega.{arith}
 use lib.Dec.{ltb}
 use lib.ListN.{length, set}
+use Rattle.board.specs.declared.Board.{Board}
 use Rattle.board.specs.declared.Net.{Net}
 use Rattle.board.specs.declared.Block.{Block}
 use Rattle.board.specs.declared.StoredJob.{StoredJob}
 use Rattle.board.specs.Job.{Job}
 use Rattle.board.specs.Stored.{job_of, stored_of}
-use Rattle.board.specs.Accepted.{NetInRange}
+use Rattle.board.specs.Accepted.{BoardInRange, NetInRange}
 use Rattle.board.proofs.StoredJobs.{job_back}
 use Rattle.jobfile.specs.declared.Refusal.{Refusal}
 use Rattle.jobfile.specs.Read.{State, start, Next, stop, with_weight, with_net, with_block, test_net, is_above, add_net, add_block}
@@ -25,6 +26,12 @@ use Rattle.jobsteps.specs.declared.NetsRead.{NetsRead}
 use Rattle.jobsteps.specs.declared.Stage.TheVariants as At
 use Rattle.jobsteps.proofs.Slots.{nets_used, blocks_used, net_more, block_more}
 use Rattle.jobsteps.proofs.Taking.{stops_by}
+
+-- the rows of a net that is in range on a board in range, whatever weight it is given
+pub weighted_rows : (board : Board) (given : Net) (w : Option ℕ) → BoardInRange board → NetInRange board given → RowsInRange (with_weight board given w)
+weighted_rows board given w b r =
+    rows_in_range board (with_weight board given w) b
+    (record { number_range = r.number_range; left_range = r.left_range; right_range = r.right_range; bounds_range = r.bounds_range })
 
 -- a net and the weight that its line gives, and the outcome r of its tests
 module _ (k : ℕ) (a : NetsRead) (job : StoredJob) (h : Held At.Filled a job) (given : Net) (w : Option ℕ) (r : Result (Unit {0}) Refusal) (t : (j : Job) (s : State) → NetsAbove j job.board job.nnets a.used → r ≡ outcome_of (test_net k (ltb a.last given.number) given w j s)) where

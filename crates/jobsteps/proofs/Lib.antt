@@ -2,3 +2,4 @@
 pub mod Slots
 pub mod Taking
 pub mod Adding
+pub mod States

@@ -1,5 +1,5 @@
 -- What a line of each form leads to, in its place and out of it. Assumes nothing.
-use Rattle.std.specs.Prelude.{Option, Ok, Err}
+use Rattle.std.specs.Prelude.{Option, Result, Ok, Err, IfErr}
 use Prim.Native.Nat.{ℕ, ◌≤◌}
 use mathlib.Core.Path.{◌≡◌, refl, sym, ap, ◌∙◌}
 use mathlib.Core.Bool.{Bool, true, false}
@@ -78,6 +78,11 @@ not_filled k At.Opened job f n = refl
 not_filled k (At.Sized h) job f n = refl
 not_filled k At.Filled job f n = absurd (n refl)
 not_filled k At.Closed job f n = refl
+
+-- what stays beside something else that a refusal leaves as it was
+pub kept_beside : {A B T E : Type 0} (x : A) (y z : B) (r : Result T E) → IfErr r (λ o. y ≡ z) → IfErr r (λ o. (x ≡ x) × (y ≡ z))
+kept_beside x y z (Ok v) e = tt
+kept_beside x y z (Err o) e = (refl, e)
 
 -- nets and blocks come to a job with its size
 pub held_filled : (stage : Stage) (a : NetsRead) (job : StoredJob) → Held stage a job → stage ≡ At.Filled → Held At.Filled a job

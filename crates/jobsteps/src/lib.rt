@@ -1,7 +1,8 @@
 // The step over a line of a job: what a line is refused for below those above it, and what it adds to the job.
 #![tactic(auto)]
 
-ghost use Rattle.std.specs.Prelude.{◌≡◌, []};
+ghost use Rattle.std.specs.Prelude.{◌≡◌, [], IfErr};
+ghost use Rattle.board.specs.Accepted.{BoardInRange};
 ghost use Rattle.board.specs.Stored.{job_of};
 ghost use Rattle.jobfile.specs.Read.{State, within, net_of, block_of, with_weight, unless, go, add_net, add_block, step};
 ghost use Rattle.jobrules.specs.Rules.{outcome_of};
@@ -77,7 +78,7 @@ fn size_outcome(most: usize, x: usize, line: usize) -> Result<(), Refusal>
     Ok(())
 }
 
-// Adds the net of a line, with its weight, to the job.
+// Adds the net of a line, with its weight, to the job; a refusal leaves the nets above and the job as they were.
 fn add_net(
     nets: &mut NetsRead,
     job: &mut StoredJob,
@@ -85,8 +86,9 @@ fn add_net(
     weight: Option<usize>,
     line: usize,
 ) -> Result<Stage, Refusal>
-    requires { Held Stage.Filled nets.old job.old }
-    ensures { Taken (add_net line (with_weight job.old.board given weight) weight (job_of job.old)) result nets.new job.new }
+    requires { BoardInRange job.old.board }
+    ensures taken { Held Stage.Filled nets.old job.old → Taken (add_net line (with_weight job.old.board given weight) weight (job_of job.old)) result nets.new job.new }
+    ensures kept { IfErr result (λ o. (nets.new ≡ nets.old) × (job.new ≡ job.old)) }
 {
     let board = job.board;
     let i = job.nnets;
@@ -101,10 +103,10 @@ fn add_net(
     Ok(Stage::Filled)
 }
 
-// Adds the block of a line to the job.
+// Adds the block of a line to the job; a refusal leaves the job as it was.
 fn add_block(job: &mut StoredJob, block: Block, line: usize) -> Result<Stage, Refusal>
-    requires { Filled job.old }
-    ensures { (nets : NetsRead) → NetsAre (job_of job.old).nets nets → Taken (add_block line block (job_of job.old)) result nets job.new }
+    ensures taken { Filled job.old → (nets : NetsRead) → NetsAre (job_of job.old).nets nets → Taken (add_block line block (job_of job.old)) result nets job.new }
+    ensures kept { IfErr result (λ o. job.new ≡ job.old) }
 {
     let i = job.nblocks;
     jobrules::block_outcome(job.board, i, block, line)?;
@@ -113,7 +115,8 @@ fn add_block(job: &mut StoredJob, block: Block, line: usize) -> Result<Stage, Re
     Ok(Stage::Filled)
 }
 
-// Takes a line of this form: the stage behind it, or the refusal of the line, the first of 2 to 9 that fits.
+// Takes a line of this form: the stage behind it, or the refusal of the line, the first of 2 to 9 that fits. A refusal leaves the nets above
+// and the job as they were.
 #[tactic(auto, using(crate::proofs::Taking::line_taken))]
 pub fn take_line(
     stage: Stage,
@@ -122,8 +125,9 @@ pub fn take_line(
     form: Form,
     line: usize,
 ) -> Result<Stage, Refusal>
-    requires { Held stage nets.old job.old }
-    ensures { Taken (step line (state_of stage job.old) form) result nets.new job.new }
+    requires { stage ≡ Stage.Filled → BoardInRange job.old.board }
+    ensures taken { Held stage nets.old job.old → Taken (step line (state_of stage job.old) form) result nets.new job.new }
+    ensures kept { IfErr result (λ o. (nets.new ≡ nets.old) × (job.new ≡ job.old)) }
 {
     match (stage, form) {
         (_, Form::Blank) => Ok(stage),

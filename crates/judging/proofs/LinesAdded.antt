@@ -16,6 +16,7 @@ use Rattle.lists.proofs.Joins.{any_of_more}
 use Rattle.lists.proofs.Places.{mem_at, map_at}
 use Rattle.board.specs.declared.Net.{Net}
 use Rattle.board.specs.declared.Track.{Track}
+use Rattle.board.specs.declared.Wired.{Wired}
 use Rattle.board.specs.Job.{Job}
 use Rattle.board.specs.Length.{span, extra}
 use Rattle.board.specs.Placement.{placement_at, covered}
@@ -29,7 +30,7 @@ use Rattle.blockmap.proofs.ClearRows.{clear_same}
 use Rattle.drc.specs.Judge.{is_sound_place, is_unlined}
 use Rattle.drc.specs.Pass.{Summary, is_next_wire}
 use Rattle.judging.specs.declared.LinesAbove.{LinesAbove}
-use Rattle.judging.specs.declared.found.WireDrawn.{WireDrawn}
+use Rattle.judging.specs.declared.found.NetFound.{NetFound}
 use Rattle.judging.specs.Judged.{NetLines}
 use Rattle.judging.proofs.Indexes.{index_number, index_none}
 use Rattle.judging.specs.Values.{is_numbered, position_numbered, is_allowed, is_under, ready_at, is_next_at, NetIs, MapOf}
@@ -145,15 +146,14 @@ module _ (job : Job) (a : AcceptedJob job) where
 
     -- ---- a wire drawn
 
-    pub next_same : (words : List ℕ) (w : WireDrawn) (j : LinesAbove) → NetIs job w.found → MapOf job m.track words →
+    pub next_same : (words : List ℕ) (found : NetFound) (wired : Wired) (j : LinesAbove) → NetIs job found → MapOf job m.track words →
         j.track.0 ≡ m.track → j.lowest.0 ≡ m.lowest →
-        is_next_at words stands w j ≡ is_next_wire job m (Some (placement_at w.found.net.net w.wired.shape w.wired.top.0))
+        is_next_at words stands found wired j ≡ is_next_wire job m (Some (placement_at found.net.net wired.shape wired.top.0))
     unfolding is_next_at is_allowed is_next_wire is_sound_place is_long is_short is_clear covered
-    next_same words w j is blocks on low =
-        let found = w.found in
+    next_same words found wired j is blocks on low =
         let n = found.net.net in
-        let top = w.wired.top.0 in
-        let s = w.wired.shape in
+        let top = wired.top.0 in
+        let s = wired.shape in
         let rows : span n + 1 + extra s ≡ top + span n + extra s + 1 - top = omega arith in
         let lined : is_on m.lined n ≡ is_some (get_or stands found.index None) =
         ap (λ n. is_on m.lined n) (sym is.net_is) ∙ old.lined_at found.index is.index_range in
@@ -168,13 +168,13 @@ module _ (job : Job) (a : AcceptedJob job) where
         )
 
 -- a wire that may stand is of a net without a line above
-pub next_new : (words : List ℕ) (stands : List (Option Track)) (w : WireDrawn) (j : LinesAbove) →
-    is_next_at words stands w j ≡ true → is_some (get_or stands w.found.index None) ≡ false
+pub next_new : (words : List ℕ) (stands : List (Option Track)) (found : NetFound) (wired : Wired) (j : LinesAbove) →
+    is_next_at words stands found wired j ≡ true → is_some (get_or stands found.index None) ≡ false
 unfolding is_next_at
-next_new words stands w j t =
-    let long = is_allowed w.found.net w.wired.shape in
-    let clear = all_unset words w.wired.top.0 (covered w.found.net.net w.wired.shape) in
-    let new = is_none (get_or stands w.found.index None) in
-    let ready = ready_at w.found.before stands j.track in
-    not-true (is_some (get_or stands w.found.index None))
-    (and_split (long && clear) new (and_split (long && clear && new) ready (and_split (long && clear && new && ready) (ltb j.lowest.0 w.wired.top.0) t).0).0).1
+next_new words stands found wired j t =
+    let long = is_allowed found.net wired.shape in
+    let clear = all_unset words wired.top.0 (covered found.net.net wired.shape) in
+    let new = is_none (get_or stands found.index None) in
+    let ready = ready_at found.before stands j.track in
+    not-true (is_some (get_or stands found.index None))
+    (and_split (long && clear) new (and_split (long && clear && new) ready (and_split (long && clear && new && ready) (ltb j.lowest.0 wired.top.0) t).0).0).1

@@ -8,6 +8,7 @@ use mathlib.Core.List.{List}
 use native.Mathlib.Omega.{arith}
 use lib.ListN.{set}
 use Rattle.board.specs.declared.Track.{Track}
+use Rattle.board.specs.declared.Wired.{Wired}
 use Rattle.board.specs.Job.{Job}
 use Rattle.board.specs.Length.{span, extra}
 use Rattle.board.specs.Weight.{weight}
@@ -17,7 +18,7 @@ use Rattle.layout.specs.Tree.{Wire}
 use Rattle.sound.specs.Wires.{weight_of}
 use Rattle.drc.specs.Pass.{Summary, add_wire, is_next_wire, lowest_of, breach_after}
 use Rattle.judging.specs.declared.LinesAbove.{LinesAbove}
-use Rattle.judging.specs.declared.found.WireDrawn.{WireDrawn}
+use Rattle.judging.specs.declared.found.NetFound.{NetFound}
 use Rattle.judging.specs.Judged.{KeepsSummary}
 use Rattle.judging.specs.Values.{remaining_of, remaining_after, is_next_at, NetIs, MapOf}
 use Rattle.judging.proofs.Remaining.{remaining_more}
@@ -70,41 +71,41 @@ module _ (job : Job) (n : ℕ) (s : Summary) (w : Wire) (j : LinesAbove) where
         lines_are = λ z. absurd (false≢true (no_breach j.breach n false z).1);
       }
 
-  module _ (a : AcceptedJob job) (drawn : WireDrawn) (is : NetIs job drawn.found) (numbered : drawn.found.net.net.number ≡ w.number) (words : List ℕ) (stands : List (Option Track))
+  module _ (a : AcceptedJob job) (found : NetFound) (wired : Wired) (is : NetIs job found) (numbered : found.net.net.number ≡ w.number) (words : List ℕ) (stands : List (Option Track))
       (blocks : MapOf job j.track.0 words) where
     abbrev next : Bool
-    next = is_next_at words stands drawn j
+    next = is_next_at words stands found wired j
 
     -- the placement that is drawn
     abbrev placed : Placement
-    placed = placement_at drawn.found.net.net drawn.wired.shape drawn.wired.top.0
+    placed = placement_at found.net.net wired.shape wired.top.0
 
     -- that draws its net
     drawn_added : KeepsSummary job s j stands →
         KeepsSummary job (add_wire job n w (Some placed) s)
-        (behind_wire (weight drawn.found.net.net) (drawn.wired.top.0 + span drawn.found.net.net + extra drawn.wired.shape) (breach_after j.breach n next))
-        (set stands drawn.found.index (Some j.track))
+        (behind_wire (weight found.net.net) (wired.top.0 + span found.net.net + extra wired.shape) (breach_after j.breach n next))
+        (set stands found.index (Some j.track))
     unfolding lowest_of
     drawn_added h =
         let on : j.track.0 ≡ s.track = sym h.track_is in
         record {
           track_is = h.track_is;
           line_is = h.line_is;
-          remaining_is = remains stands (weight drawn.found.net.net) (found_weight job drawn.found is a w.number numbered) h;
+          remaining_is = remains stands (weight found.net.net) (found_weight job found is a w.number numbered) h;
           lowest_is = refl;
           last_is = h.last_is;
           breach_is =
               ap (λ (f : Option ℕ). breach_after f n (is_next_wire job s (Some placed))) h.breach_is ∙
               (breach_same j.breach n next (is_next_wire job s (Some placed))
-              (λ z. next_same job a s stands (h.lines_are z) words drawn j is (rw on at blocks) on (sym h.lowest_is)));
+              (λ z. next_same job a s stands (h.lines_are z) words found wired j is (rw on at blocks) on (sym h.lowest_is)));
           lines_are = λ z.
               let p = no_breach j.breach n next z in
-              line_added job a s (add_wire job n w (Some placed) s) stands drawn.found.index w.number j.track refl refl refl h.track_is
-              is.index_range (ap (λ q. q.number) is.net_is ∙ numbered) (next_new words stands drawn j p.1) (h.lines_are p.0);
+              line_added job a s (add_wire job n w (Some placed) s) stands found.index w.number j.track refl refl refl h.track_is
+              is.index_range (ap (λ q. q.number) is.net_is ∙ numbered) (next_new words stands found wired j p.1) (h.lines_are p.0);
         }
 
     -- the same of what the code works out
-    pub drawn_kept : (lowest : ℕ) (breach : Option ℕ) → lowest ≡ drawn.wired.top.0 + covered drawn.found.net.net drawn.wired.shape - 1 →
+    pub drawn_kept : (lowest : ℕ) (breach : Option ℕ) → lowest ≡ wired.top.0 + covered found.net.net wired.shape - 1 →
         breach ≡ breach_after j.breach n next → KeepsSummary job s j stands →
-        KeepsSummary job (add_wire job n w (Some placed) s) (behind_wire (weight drawn.found.net.net) lowest breach) (set stands drawn.found.index (Some j.track))
-    drawn_kept lowest breach f g h = rw (f ∙ lowest_row drawn.wired.top.0 drawn.found.net.net drawn.wired.shape, g) (drawn_added h)
+        KeepsSummary job (add_wire job n w (Some placed) s) (behind_wire (weight found.net.net) lowest breach) (set stands found.index (Some j.track))
+    drawn_kept lowest breach f g h = rw (f ∙ lowest_row wired.top.0 found.net.net wired.shape, g) (drawn_added h)

@@ -4,6 +4,7 @@ use Rattle.board.specs.declared.BoardNet.{BoardNet}
 use Rattle.board.specs.declared.Net.{Net}
 use Rattle.board.specs.declared.Shape.{Shape}
 use Rattle.board.specs.declared.Track.{Track}
+use Rattle.board.specs.declared.Wired.{Wired}
 use Rattle.board.specs.Job.{Job}
 use Rattle.board.specs.Length.{length_of}
 use Rattle.board.specs.Placement.{covered}
@@ -16,7 +17,6 @@ use Rattle.judging.specs.declared.LinesAbove.{LinesAbove}
 use Rattle.judging.specs.declared.LinesJudged.{LinesJudged}
 use Rattle.judging.specs.declared.LinesJudged.TheVariants as Is
 use Rattle.judging.specs.declared.found.NetFound.{NetFound}
-use Rattle.judging.specs.declared.found.WireDrawn.{WireDrawn}
 
 -- the net has number k
 abbrev pub is_numbered : ℕ → Net → Bool
@@ -39,11 +39,11 @@ is_under track (Some t) = ltb t.0 track
 abbrev pub ready_at : Option ℕ → List (Option Track) → Track → Bool
 ready_at before stands track = none_or (λ i. is_under track.0 (get_or stands i None)) before
 
--- a wire that draws its net may stand below the lines that j keeps
-unfoldable pub is_next_at : List ℕ → List (Option Track) → WireDrawn → LinesAbove → Bool
-is_next_at words stands w j =
-    is_allowed w.found.net w.wired.shape && all_unset words w.wired.top.0 (covered w.found.net.net w.wired.shape) && is_none (get_or stands w.found.index None) &&
-    ready_at w.found.before stands j.track && ltb j.lowest.0 w.wired.top.0
+-- a wire of the net found, where it stands, may stand below the lines that j keeps
+unfoldable pub is_next_at : List ℕ → List (Option Track) → NetFound → Wired → LinesAbove → Bool
+is_next_at words stands found wired j =
+    is_allowed found.net wired.shape && all_unset words wired.top.0 (covered found.net.net wired.shape) && is_none (get_or stands found.index None) &&
+    ready_at found.before stands j.track && ltb j.lowest.0 wired.top.0
 
 -- the track of the last track line, 0 where no track is judged
 abbrev pub track_of : LinesJudged → Track

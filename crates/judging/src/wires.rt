@@ -69,7 +69,7 @@ impl LinesAbove {
         words: &'a [u64; 16],
         stands: &'a [Option<Track>; 512],
     ) -> bool
-        ensures { result ≡ is_next_at words.now stands.now wire self }
+        ensures { result ≡ is_next_at words.now stands.now wire.found wire.wired self }
     {
         let found = wire.found;
         let wired = wire.wired;

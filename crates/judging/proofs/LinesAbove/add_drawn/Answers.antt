@@ -27,7 +27,7 @@ returns-clause-keeps_summary c =
     let a = c.args in
     λ job m v acc found numbered blocks h.
     rw c.remaining_after.ensures
-    (drawn_kept job a.line m v a.self acc a.wire found numbered a.words.now a.stands.now blocks _ _
+    (drawn_kept job a.line m v a.self acc a.wire.found a.wire.wired found numbered a.words.now a.stands.now blocks _ _
     (ap (λ (rows : ℕ). a.wire.wired.top.0 + rows - 1) c.covered-rows.ensures)
     (c.breach_after.ensures ∙ ap (λ (passed : Bool). breach_after a.self.breach a.line passed) c.may_stand-passed.ensures)
     h)

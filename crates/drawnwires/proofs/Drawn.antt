@@ -56,12 +56,12 @@ only_one t n ps = placement_from_rows t n ps (first_in (wire_column t.0) ps)
 -- ---- the line of a wire
 
 -- the texts of two wires with one number are the same exactly if their points are
-pub same_drawing : (n : BoardNet) (p : Wired) (s : List ℕ) (w : Wire) → read_line s ≡ Some (wire w) → w.number ≡ n.net.number →
-    same_points (points_on n.board p.track.0 (only_placement n.net p)) w.points ≡ same s (wire_text n p)
+pub same_drawing : (board : Board) (n : Net) (p : Wired) (s : List ℕ) (w : Wire) → read_line s ≡ Some (wire w) → w.number ≡ n.number →
+    same_points (points_on board p.track.0 (only_placement n p)) w.points ≡ same s (wire_text board n p)
 unfolding wire_text wire_of
-same_drawing n p s w r e =
-    let q = points_on n.board p.track.0 (only_placement n.net p) in
-    let v : Wire = record { number = n.net.number; points = q } in
+same_drawing board n p s w r e =
+    let q = points_on board p.track.0 (only_placement n p) in
+    let v : Wire = record { number = n.number; points = q } in
     let l = (read_line_sound s (wire w) r).0 in
     by_test (same s (line_text (wire v)))
     (λ h.
@@ -91,17 +91,17 @@ module _ {n : BoardNet} {p : Wired} (o : OnBoard n p) where
       omega (arith, length-append x (10 ∷ []))
 
 -- what a writer of the line leaves, up to its byte 10
-module _ (n : BoardNet) (p : Wired) (before after : List ℕ) (k : ℕ) (w : Written (wire_line n.board p.track n.net p.shape p.top) before after k) where
-  pub line_used : k ≡ length (wire_text n p) + 1
+module _ (board : Board) (n : Net) (p : Wired) (before after : List ℕ) (k : ℕ) (w : Written (wire_line board p.track n p.shape p.top) before after k) where
+  pub line_used : k ≡ length (wire_text board n p) + 1
   unfolding wire_text
-  line_used = w.used ∙ length-append (wire_text n p) (10 ∷ [])
+  line_used = w.used ∙ length-append (wire_text board n p) (10 ∷ [])
 
-  pub line_bytes : take (k - 1) after ≡ wire_text n p
+  pub line_bytes : take (k - 1) after ≡ wire_text board n p
   unfolding wire_text
   line_bytes =
-      let x = wire_text n p in
+      let x = wire_text board n p in
       let e : k - 1 ≡ length x = omega (arith, line_used) in
-      rw (e, w.bytes, append_assoc x (10 ∷ []) (drop (length (wire_line n.board p.track n.net p.shape p.top)) before)) (take-append_seam x ((10 ∷ []) ++ drop (length (wire_line n.board p.track n.net p.shape p.top)) before))
+      rw (e, w.bytes, append_assoc x (10 ∷ []) (drop (length (wire_line board p.track n p.shape p.top)) before)) (take-append_seam x ((10 ∷ []) ++ drop (length (wire_line board p.track n p.shape p.top)) before))
 
 -- the same bytes, as the comparison of slices tells
 pub same_is : (s t : List ℕ) → bytes_eq s t ≡ same s t
@@ -130,11 +130,11 @@ kept true n p = refl
 kept false n p = refl
 
 -- the rows of the wire column leave one placement: it is drawn, or none is
-pub answer : (n : BoardNet) (t : Track) (s : List ℕ) (rows : Option ColumnRows) (p : Wired) (b : Bool) → RowsOf s (2 * t.0) rows → p ≡ only_place n.net t rows →
-    b ≡ (is_on_board n.board (only_placement n.net p) && same s (wire_text n p)) → DrawnIn s n t (then_some b p)
+pub answer : (board : Board) (n : Net) (t : Track) (s : List ℕ) (rows : Option ColumnRows) (p : Wired) (b : Bool) → RowsOf s (2 * t.0) rows → p ≡ only_place n t rows →
+    b ≡ (is_on_board board (only_placement n p) && same s (wire_text board n p)) → DrawnIn s board n t (then_some b p)
 unfolding drawn_of wire_column
-answer n t s rows p b of_wire only tested w r e =
-    let on : p.track ≡ t = ap (λ (x : Wired). x.track) only ∙ only_track n.net t rows in
-    let one : placement_of t.0 n.net w.points ≡ only_placement n.net p =
-    sym (ap (only_placement n.net) only ∙ ap (λ (x : Option ColumnRows). only_placement n.net (only_place n.net t x)) (of_wire w r) ∙ only_one t n.net w.points) in
-    rw (one, ← on, same_drawing n p s w r e, tested) (kept (is_on_board n.board (only_placement n.net p) && same s (wire_text n p)) n.net p)
+answer board n t s rows p b of_wire only tested w r e =
+    let on : p.track ≡ t = ap (λ (x : Wired). x.track) only ∙ only_track n t rows in
+    let one : placement_of t.0 n w.points ≡ only_placement n p =
+    sym (ap (only_placement n) only ∙ ap (λ (x : Option ColumnRows). only_placement n (only_place n t x)) (of_wire w r) ∙ only_one t n w.points) in
+    rw (one, ← on, same_drawing board n p s w r e, tested) (kept (is_on_board board (only_placement n p) && same s (wire_text board n p)) n p)

@@ -1,5 +1,6 @@
 -- Where a net stands that a wire line draws: the place that its points can draw, and whether they do.
 use Rattle.std.specs.Prelude.{ℕ, ◌-◌, ◌≤◌, min, max, ◌≡◌, List, Option, None, Some, option_map}
+use Rattle.board.specs.declared.Board.{Board}
 use Rattle.board.specs.declared.BoardNet.{BoardNet}
 use Rattle.board.specs.declared.Net.{Net}
 use Rattle.board.specs.declared.Shape.TheVariants.{Plain, Stretched}
@@ -24,9 +25,9 @@ only_place n t None = record { track = t; top = record { 0 = upper n }; shape = 
 only_place n t (Some rows) =
     record { track = t; top = record { 0 = min rows.first rows.last }; shape = Stretched (max rows.first rows.last - min rows.first rows.last - span n) }
 
--- the text, without its byte 10, of the wire of a net, where it stands
-unfoldable pub wire_text : BoardNet → Wired → List ℕ
-wire_text n p = line_text (wire (wire_of n.board p.track.0 (placement_at n.net p.shape p.top.0)))
+-- the text, without its byte 10, of the wire of a net on a board, where it stands
+unfoldable pub wire_text : Board → Net → Wired → List ℕ
+wire_text board n p = line_text (wire (wire_of board p.track.0 (placement_at n p.shape p.top.0)))
 
 -- a net stands on a track of the board, and ends on the board
 pub record OnBoard (n : BoardNet) (p : Wired) : Type 0 where
@@ -34,5 +35,5 @@ pub record OnBoard (n : BoardNet) (p : Wired) : Type 0 where
   pub to_last : bottom (placement_at n.net p.shape p.top.0) ≤ n.board.rows
 
 -- the answer is the placement of the net that the wire draws on the track, whenever the line is that of a wire with the net's number
-abbrev pub DrawnIn : List ℕ → BoardNet → Track → Option Wired → Type 0
-DrawnIn s n t r = (w : Wire) → read_line s ≡ Some (wire w) → w.number ≡ n.net.number → r ≡ place_of t (drawn_of n.board t.0 w.points n.net)
+abbrev pub DrawnIn : List ℕ → Board → Net → Track → Option Wired → Type 0
+DrawnIn s board n t r = (w : Wire) → read_line s ≡ Some (wire w) → w.number ≡ n.number → r ≡ place_of t (drawn_of board t.0 w.points n)

@@ -45,7 +45,7 @@ fn is_on_board(net: BoardNet, wired: Wired) -> bool
 // Whether a line is that of the wire of a net, where it stands.
 fn draws(s: &[u8], net: BoardNet, wired: Wired) -> bool
     requires { OnBoard net wired }
-    ensures { result ≡ same s.now (wire_text net wired) }
+    ensures { result ≡ same s.now (wire_text net.board net.net wired) }
 {
     let mut line = [0u8; 128];
     let n = writer::wire_line(&mut line, net, wired);
@@ -55,7 +55,7 @@ fn draws(s: &[u8], net: BoardNet, wired: Wired) -> bool
 // Where a net stands that a wire line, without its byte 10, draws on a track, at any length.
 pub fn drawn_place(net: BoardNet, track: Track, s: &[u8]) -> Option<Wired>
     requires le_track { (1 ≤ track.0) × (track.0 ≤ net.board.tracks) }
-    ensures { DrawnIn s.now net track result }
+    ensures { DrawnIn s.now net.board net.net track result }
 {
     let rows = layoutforms::rows::column_rows(s, 2 * track.0);
     let wired = only_place(net.net, track, rows);

@@ -15,5 +15,5 @@ draws-drawn-requires c =
 pub returns : goal.returns
 returns c =
     rw c.then_some.ensures
-    (answer c.args.net c.args.track _ _ _ _ c.column_rows-rows.ensures c.only_place-wired.ensures
+    (answer c.args.net.board c.args.net.net c.args.track _ _ _ _ c.column_rows-rows.ensures c.only_place-wired.ensures
     (elim c.if-is_on_board.branch [ then-is_on_board w ↦ grind (arith, common_steps) | else-is_on_board w ↦ grind (arith, common_steps) ]))

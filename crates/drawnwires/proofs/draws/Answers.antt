@@ -10,4 +10,4 @@ pub wire_line-n-requires-clause-top_in_bounds : goal.wire_line-n-requires-clause
 wire_line-n-requires-clause-top_in_bounds c = omega (arith, line_fits c.requires)
 
 pub returns : goal.returns
-returns c = let e = line_bytes c.args.net c.args.wired _ _ _ c.wire_line-n.ensures in grind (arith, same_is)
+returns c = let e = line_bytes c.args.net.board c.args.net.net c.args.wired _ _ _ c.wire_line-n.ensures in grind (arith, same_is)

@@ -3,7 +3,9 @@
 
 mod tables;
 
-ghost use Rattle.std.specs.Prelude.{◌≡◌, ◌≤◌, max, Option, IfOk, IfSome, Some};
+ghost use Rattle.std.specs.Prelude.{◌≡◌, ◌≤◌, length, max, Option, IfOk, IfSome, Some};
+ghost use Rattle.board.specs.Job.{Job};
+ghost use Rattle.board.specs.Accepted.{AcceptedJob};
 ghost use Rattle.layout.specs.Tree.{Wire, Line, wire};
 ghost use Rattle.layout.specs.ReadBack.{read_line};
 ghost use Rattle.drc.specs.Pass.{PassState, pass_line, pass_step};
@@ -12,11 +14,11 @@ ghost use Rattle.judging.specs.Values.{track_of, MapOf};
 ghost use Rattle.layoutsteps.specs.LayoutSteps.{layout_step, form_number, LineIs};
 ghost use Rattle.layoutsteps.specs.Found.{LineOfWire, LineOfForm, FoundFor};
 
-use board::{Job, Track};
+use board::{Board, Track};
 use judging::{LinesJudged, NetFound, WireDrawn};
 use layoutforms::LayoutForm;
 use lines::Place;
-pub use tables::NetTables;
+pub use tables::{NetSlot, NetTables, find_slot};
 
 // A line of a text: its form, if it is one of a layout; its first byte and the one after its last; and the place behind it.
 #[derive(Clone, Copy)]
@@ -60,7 +62,7 @@ fn form_number(form: Option<LayoutForm>) -> Option<usize>
 
 // What a wire line leads to, where `found` is the net of its number, if a net has it.
 fn take_wire(
-    job: &Job,
+    board: Board,
     found: Option<NetFound>,
     words: &[u64; 16],
     stands: &mut [Option<Track>; 512],
@@ -68,12 +70,11 @@ fn take_wire(
     line: usize,
     s: &[u8],
 ) -> Result<LinesJudged, usize>
-    requires found_on_board { IfSome found (λ n. n.net.board ≡ job.now.board) }
+    requires found_on_board { IfSome found (λ n. n.net.board ≡ board) }
     requires line_of_wire { LineOfWire found s.now }
-    ensures keeps_step { (st : PassState) (w : Wire) → FoundFor job.now w.number found → read_line s.now ≡ Some (wire w) → MapOf job.now (track_of m).0 words.now → KeepsState job.now st m stands.old → KeepsStep job.now (pass_line job.now line st (wire w)) result stands.new }
+    ensures keeps_step { (job : Job) (st : PassState) (w : Wire) → AcceptedJob job → job.board ≡ board → FoundFor job w.number found → read_line s.now ≡ Some (wire w) → MapOf job (track_of m).0 words.now → KeepsState job st m stands.old → KeepsStep job (pass_line job line st (wire w)) result stands.new }
     ensures track { IfOk result (λ n. track_of n ≡ track_of m) }
 {
-    let board = job.board();
     let LinesJudged::Running(above) = m else {
         return Err(line);
     };
@@ -90,9 +91,10 @@ fn take_wire(
     Ok(LinesJudged::Running(behind))
 }
 
-// What a line leads to, where s is the line, without its byte 10.
+// What a line leads to, where the job has `count` nets and s is the line, without its byte 10.
 pub fn take_line(
-    job: &Job,
+    board: Board,
+    count: usize,
     found: Option<NetFound>,
     words: &[u64; 16],
     stands: &mut [Option<Track>; 512],
@@ -101,23 +103,23 @@ pub fn take_line(
     form: Option<LayoutForm>,
     s: &[u8],
 ) -> Result<LinesJudged, usize>
-    requires found_on_board { IfSome found (λ n. n.net.board ≡ job.now.board) }
+    requires count_bound { count ≤ 512 }
+    requires found_on_board { IfSome found (λ n. n.net.board ≡ board) }
     requires line_of_form { LineOfForm found form s.now }
-    ensures keeps_step { (st : PassState) (x : Option Line) → IfSome (form_number form) (λ k. FoundFor job.now k found) → LineIs s.now x form → MapOf job.now (track_of m).0 words.now → KeepsState job.now st m stands.old → KeepsStep job.now (pass_step job.now line st x) result stands.new }
-    ensures track { IfOk result (λ n. (track_of n).0 ≤ max job.now.board.tracks (track_of m).0) }
+    ensures keeps_step { (job : Job) (st : PassState) (x : Option Line) → AcceptedJob job → job.board ≡ board → length job.nets ≡ count → IfSome (form_number form) (λ k. FoundFor job k found) → LineIs s.now x form → MapOf job (track_of m).0 words.now → KeepsState job st m stands.old → KeepsStep job (pass_step job line st x) result stands.new }
+    ensures track { IfOk result (λ n. (track_of n).0 ≤ max board.tracks (track_of m).0) }
 {
     let Some(form) = form else {
         return Err(m.closed(line));
     };
-    let board = job.board();
     match form {
         LayoutForm::Opening => m.take_opening(line),
         LayoutForm::Track { track, sum } => m.take_track(board.tracks, line, Track(track), sum),
-        LayoutForm::Wire { number: _ } => take_wire(job, found, words, stands, m, line, s),
+        LayoutForm::Wire { number: _ } => take_wire(board, found, words, stands, m, line, s),
         LayoutForm::Loose { number } => {
             let index = found.map(|net| net.index);
             m.take_loose(board.tracks, line, number, index, stands)
         }
-        LayoutForm::Closing => m.take_closing(board.tracks, line, stands, job.nets().len()),
+        LayoutForm::Closing => m.take_closing(board.tracks, line, stands, count),
     }
 }

@@ -1,6 +1,5 @@
 -- `layoutsteps::take_line` meets its contract: one case for each form. Assumes nothing.
 use mathlib.Core.Path.{◌≡◌, sym, ap, ◌∙◌}
-use lib.ListN.{length}
 use borrow.Author.Rules.{rules}
 use Rattle.std.specs.Prelude.{Some, option_map}
 use Rattle.board.specs.declared.Board.{Board}
@@ -15,9 +14,9 @@ use Rattle.layoutsteps.proofs.take_line.Goals as goal
 pub returns-in_default-clause-keeps_step : goal.returns-in_default-clause-keeps_step
 unfolding pass_step
 returns-in_default-clause-keeps_step c =
-    λ st x f l map k.
+    λ job st x acc is n f l map k.
     let a = c.args in
-    rw (none_read x (sym c.in_default.is ∙ l.form_is), c.closed.ensures) (closes_ill_formed a.job.now a.line st a.m a.stands.now k)
+    rw (none_read x (sym c.in_default.is ∙ l.form_is), c.closed.ensures) (closes_ill_formed job a.line st a.m a.stands.now k)
 
 pub take_wire-requires-clause-line_of_wire : goal.take_wire-requires-clause-line_of_wire
 take_wire-requires-clause-line_of_wire c =
@@ -30,38 +29,38 @@ take_wire-requires-clause-line_of_wire c =
 pub returns-in-Opening-clause-keeps_step : goal.returns-in-Opening-clause-keeps_step
 unfolding pass_step
 returns-in-Opening-clause-keeps_step c =
-    λ st x f l map k.
+    λ job st x acc is n f l map k.
     let o = c.in-Some.is ∙ ap Some c.in-Opening.is in
-    rw (opening_read x (sym o ∙ l.form_is)) (c.take_opening.ensures.keeps_step c.args.job.now st _ k)
+    rw (opening_read x (sym o ∙ l.form_is)) (c.take_opening.ensures.keeps_step job st _ k)
 
 pub returns-in-Track-clause-keeps_step : goal.returns-in-Track-clause-keeps_step
 unfolding pass_step
 returns-in-Track-clause-keeps_step c =
-    λ st x f l map k.
+    λ job st x acc is n f l map k.
     let o = c.in-Some.is ∙ ap Some c.in-Track.is in
-    rw (track_read x _ _ (sym o ∙ l.form_is)) (c.take_track.ensures.keeps_step c.args.job.now st _ (ap (λ (b : Board). b.tracks) (sym c.board-board.ensures.board)) k)
+    rw (track_read x _ _ (sym o ∙ l.form_is)) (c.take_track.ensures.keeps_step job st _ (ap (λ (b : Board). b.tracks) is) k)
 
 pub returns-in-Wire-clause-keeps_step : goal.returns-in-Wire-clause-keeps_step
 unfolding pass_step
 returns-in-Wire-clause-keeps_step c =
-    λ st x f l map k.
+    λ job st x acc is n f l map k.
     let o = c.in-Some.is ∙ ap Some c.in-Wire.is in
     let w = wire_read x _ (sym o ∙ l.form_is) in
     let g = rw (o, sym w.numbered) at f in
-    rw w.line (c.take_wire.ensures.keeps_step st w.drawn g (l.read_is (wire w.drawn) w.line) map k)
+    rw w.line (c.take_wire.ensures.keeps_step job st w.drawn acc is g (l.read_is (wire w.drawn) w.line) map k)
 
 pub returns-in-Loose-clause-keeps_step : goal.returns-in-Loose-clause-keeps_step
 unfolding pass_step
 returns-in-Loose-clause-keeps_step c =
-    λ st x f l map k.
+    λ job st x acc is n f l map k.
     let o = c.in-Some.is ∙ ap Some c.in-Loose.is in
     let g = rw o at f in
     let index : c.map-index.result ≡ option_map (λ (n : NetFound). n.index) c.args.found = search rules in
-    rw (loose_read x _ (sym o ∙ l.form_is)) (c.take_loose.ensures.keeps_step c.args.job.now st c.board-board.ensures.accepted (ap (λ (b : Board). b.tracks) (sym c.board-board.ensures.board)) (index ∙ g.index_is) k)
+    rw (loose_read x _ (sym o ∙ l.form_is)) (c.take_loose.ensures.keeps_step job st acc (ap (λ (b : Board). b.tracks) is) (index ∙ g.index_is) k)
 
 pub returns-in-Closing-clause-keeps_step : goal.returns-in-Closing-clause-keeps_step
 unfolding pass_step
 returns-in-Closing-clause-keeps_step c =
-    λ st x f l map k.
+    λ job st x acc is n f l map k.
     let o = c.in-Some.is ∙ ap Some c.in-Closing.is in
-    rw (closing_read x (sym o ∙ l.form_is)) (c.take_closing.ensures.keeps_step c.args.job.now st c.board-board.ensures.accepted (ap (λ (b : Board). b.tracks) (sym c.board-board.ensures.board)) (ap length (sym c.nets.ensures.nets)) k)
+    rw (closing_read x (sym o ∙ l.form_is)) (c.take_closing.ensures.keeps_step job st acc (ap (λ (b : Board). b.tracks) is) n k)

@@ -14,31 +14,27 @@ pub returns-in_default-clause-keeps_step : goal.returns-in_default-clause-keeps_
 unfolding is_opening
 returns-in_default-clause-keeps_step c =
     let a = c.args in
-    λ st w f rd map k. idle_off a.job.now a.line st (wire w) a.m a.stands.now refl c.in_default.not-Running k
+    λ job st w acc is f rd map k. idle_off job a.line st (wire w) a.m a.stands.now refl c.in_default.not-Running k
 
 pub returns-then-not-is_wire_turn-clause-keeps_step : goal.returns-then-not-is_wire_turn-clause-keeps_step
 returns-then-not-is_wire_turn-clause-keeps_step c =
-    λ st w f rd map k.
+    λ job st w acc is f rd map k.
     let a = c.args in
-    let job = a.job.now in
-    let acc = c.board-board.ensures.accepted in
-    let is = ap (λ (b : Board). b.tracks) (sym c.board-board.ensures.board) in
+    let on = ap (λ (b : Board). b.tracks) is in
     let j = c.in-Running.above in
     let h = rw c.in-Running.is at k in
     let turn = sym c.is_wire_turn.ensures ∙ c.if-not-is_wire_turn.true in
     rw c.closed.ensures
-    (closes_off job a.line st (wire w) (Running j) a.stands.now h (sym (wire_place job c.board-board.result.tracks is j a.stands.now st w h) ∙ turn))
+    (closes_off job a.line st (wire w) (Running j) a.stands.now h (sym (wire_place job a.board.tracks on j a.stands.now st w h) ∙ turn))
 
 pub returns-in_default-found-clause-keeps_step : goal.returns-in_default-found-clause-keeps_step
 returns-in_default-found-clause-keeps_step c =
-    λ st w f rd map k.
+    λ job st w acc is f rd map k.
     let a = c.args in
-    let job = a.job.now in
-    let acc = c.board-board.ensures.accepted in
-    let is = ap (λ (b : Board). b.tracks) (sym c.board-board.ensures.board) in
+    let on = ap (λ (b : Board). b.tracks) is in
     let j = c.in-Running.above in
     let h = rw c.in-Running.is at k in
-    let turn = sym (wire_place job c.board-board.result.tracks is j a.stands.now st w h) ∙ sym c.is_wire_turn.ensures ∙ c.if-not-is_wire_turn.false in
+    let turn = sym (wire_place job a.board.tracks on j a.stands.now st w h) ∙ sym c.is_wire_turn.ensures ∙ c.if-not-is_wire_turn.false in
     let none = (rw c.in_default-found.is at f).index_is in
     wire_taken job a.line j a.stands.now st w _ _ _ turn h (unknown_undrawn job w none j.track.0)
     (λ m q. c.add_undrawn.ensures.keeps_summary job m w a.stands.now a.stands.now (unknown_weight job w none) q)
@@ -53,14 +49,12 @@ invariant_of-add_drawn c =
 
 pub returns-in-Some-drawn_place-clause-keeps_step : goal.returns-in-Some-drawn_place-clause-keeps_step
 returns-in-Some-drawn_place-clause-keeps_step c =
-    λ st w f rd map k.
+    λ job st w acc is f rd map k.
     let a = c.args in
-    let job = a.job.now in
-    let acc = c.board-board.ensures.accepted in
-    let is = ap (λ (b : Board). b.tracks) (sym c.board-board.ensures.board) in
+    let on = ap (λ (b : Board). b.tracks) is in
     let j = c.in-Running.above in
     let h = rw c.in-Running.is at k in
-    let turn = sym (wire_place job c.board-board.result.tracks is j a.stands.now st w h) ∙ sym c.is_wire_turn.ensures ∙ c.if-not-is_wire_turn.false in
+    let turn = sym (wire_place job a.board.tracks on j a.stands.now st w h) ∙ sym c.is_wire_turn.ensures ∙ c.if-not-is_wire_turn.false in
     let n = c.in-Some.found in
     let g = rw c.in-Some.is at f in
     let blocks = rw c.in-Running.is at map in
@@ -73,14 +67,12 @@ returns-in-Some-drawn_place-clause-keeps_step c =
 pub returns-in-None-clause-keeps_step : goal.returns-in-None-clause-keeps_step
 unfolding weight
 returns-in-None-clause-keeps_step c =
-    λ st w f rd map k.
+    λ job st w acc is f rd map k.
     let a = c.args in
-    let job = a.job.now in
-    let acc = c.board-board.ensures.accepted in
-    let is = ap (λ (b : Board). b.tracks) (sym c.board-board.ensures.board) in
+    let on = ap (λ (b : Board). b.tracks) is in
     let j = c.in-Running.above in
     let h = rw c.in-Running.is at k in
-    let turn = sym (wire_place job c.board-board.result.tracks is j a.stands.now st w h) ∙ sym c.is_wire_turn.ensures ∙ c.if-not-is_wire_turn.false in
+    let turn = sym (wire_place job a.board.tracks on j a.stands.now st w h) ∙ sym c.is_wire_turn.ensures ∙ c.if-not-is_wire_turn.false in
     let n = c.in-Some.found in
     let g = rw c.in-Some.is at f in
     wire_taken job a.line j a.stands.now st w _ _ _ turn h

@@ -80,11 +80,13 @@ fn finish(m: LinesJudged, line: usize) -> Result<(), CheckError>
     }
 }
 
-// The verdict on a layout text: one pass over its lines. The job is lent; of it only the net of a line goes by value.
+// The verdict on a layout text: one pass over its lines. The job is lent; of it only its board, how many nets it has and the net of a line go by value.
 fn judge_lines(tables: NetTables, text: &[u8]) -> Result<(), CheckError>
     ensures { result ≡ verdict_answer (pass_over tables.entry.job.now text.now) }
 {
     let job = tables.job;
+    let board = job.board();
+    let count = job.nets().len();
     let mut stands = [None; 512];
     let mut map = candidates::block_map(job, Track(0));
     let mut m = LinesJudged::Unbegun;
@@ -96,7 +98,8 @@ fn judge_lines(tables: NetTables, text: &[u8]) -> Result<(), CheckError>
         let found = tables.find_net(form);
         let above = m.track();
         let s = &text[read.from..read.to];
-        let led = layoutsteps::take_line(job, found, &map.words, &mut stands, m, line, form, s);
+        let words = &map.words;
+        let led = layoutsteps::take_line(board, count, found, words, &mut stands, m, line, form, s);
         m = led.map_err(CheckError::Broken)?;
         let track = m.track();
         if track.0 != above.0 {

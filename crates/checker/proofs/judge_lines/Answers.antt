@@ -2,6 +2,7 @@
 use Prim.Native.Nat.{ℕ, ◌+◌}
 use mathlib.Core.Path.{◌≡◌, sym, ap, subst, ◌∙◌}
 use native.Mathlib.Omega.{arith}
+use lib.ListN.{length}
 use borrow.Author.Rules.{rules}
 use Rattle.std.specs.Prelude.{Ok, Err}
 use Rattle.std.proofs.lemmas.Result.{err_from_is_err_and}
@@ -33,7 +34,8 @@ led_at : (c : After-take_line-led) → FoundAt c.args.tables.job.now (form_numbe
     c.take_line-led.result c.take_line-led.new.stands
 led_at c f =
     let w = c.loop-read.invariant in
-    c.take_line-led.ensures.keeps_step w.state _ f.of_job (left_line _ _ _ _ _ _ w _ c.in-Some.ensures) w.map w.keeps
+    c.take_line-led.ensures.keeps_step c.args.tables.job.now w.state _ c.board-board.ensures.accepted (sym c.board-board.ensures.board)
+    (ap length (sym c.nets-count.ensures.nets)) f.of_job (left_line _ _ _ _ _ _ w _ c.in-Some.ensures) w.map w.keeps
 
 pub loop-read-init : goal.loop-read-init
 loop-read-init c =
@@ -58,7 +60,7 @@ slice_bounds-s-end c =
 pub take_line-led-requires-clause-found_on_board : goal.take_line-led-requires-clause-found_on_board
 take_line-led-requires-clause-found_on_board c =
     let here = goal.at.take_line-led-requires-clause-found_on_board c in
-    (looked here.After-find_net-found).on_board
+    rw c.board-board.ensures.board (looked here.After-find_net-found).on_board
 
 pub take_line-led-requires-clause-line_of_form : goal.take_line-led-requires-clause-line_of_form
 take_line-led-requires-clause-line_of_form c =

@@ -80,7 +80,8 @@ fn finish(m: LinesJudged, line: usize) -> Result<(), CheckError>
     }
 }
 
-// The verdict on a layout text: one pass over its lines. The job is lent; of it only its board, how many nets it has and the net of a line go by value.
+// The verdict on a layout text: one pass over its lines. The job is lent; of it only the board, the count of nets and the net of a line go by
+// value.
 fn judge_lines(tables: NetTables, text: &[u8]) -> Result<(), CheckError>
     ensures { result ≡ verdict_answer (pass_over tables.entry.job.now text.now) }
 {

@@ -58,6 +58,36 @@ impl TextRefusal {
     }
 }
 
+// The number of a refusal; 0 where nothing is refused.
+pub fn answer_number(answer: Result<usize, TextRefusal>) -> usize
+    ensures { result ≡ (answer_values answer).number }
+{
+    match answer {
+        Ok(_) => 0,
+        Err(refusal) => refusal.number(),
+    }
+}
+
+// The line that a refusal names; 0 where it names none.
+pub fn answer_line(answer: Result<usize, TextRefusal>) -> usize
+    ensures { result ≡ (answer_values answer).line }
+{
+    match answer {
+        Ok(_) => 0,
+        Err(refusal) => refusal.line(),
+    }
+}
+
+// The length of the text: written, or needed; 0 where read refuses.
+pub fn answer_bytes(answer: Result<usize, TextRefusal>) -> usize
+    ensures { result ≡ (answer_values answer).bytes }
+{
+    match answer {
+        Ok(written) => written,
+        Err(refusal) => refusal.needed(),
+    }
+}
+
 // Copies the text of an accepted job into a lent buffer, unless it has more bytes than the buffer.
 pub fn put_answer(bytes: &[u8], out: &mut [u8]) -> Result<usize, TextRefusal>
     ensures answer { result ≡ answer_for bytes.now (length out.old) }

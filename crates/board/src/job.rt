@@ -30,6 +30,14 @@ impl Job {
         Job { stored }
     }
 
+    // The job by value, as it is stored.
+    pub fn stored(&self) -> &StoredJob
+        ensures stored { job_of result.now ≡ self.now }
+        ensures accepted { AcceptedStored result.now }
+    {
+        &self.stored
+    }
+
     // The size of the board.
     pub fn board(&self) -> Board
         ensures board { result ≡ self.now.board }

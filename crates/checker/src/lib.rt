@@ -70,6 +70,36 @@ impl CheckError {
     }
 }
 
+// The number of a refusal; 0 where nothing is refused.
+pub fn check_number(answer: Result<(), CheckError>) -> usize
+    ensures { result ≡ (check_values answer).number }
+{
+    match answer {
+        Ok(()) => 0,
+        Err(error) => error.number(),
+    }
+}
+
+// Whether the layout is broken.
+pub fn is_broken(answer: Result<(), CheckError>) -> bool
+    ensures { result ≡ (check_values answer).broken }
+{
+    match answer {
+        Ok(()) => false,
+        Err(error) => error.is_broken(),
+    }
+}
+
+// The line that a refusal or a broken layout names; 0 where none is named.
+pub fn check_line(answer: Result<(), CheckError>) -> usize
+    ensures { result ≡ (check_values answer).line }
+{
+    match answer {
+        Ok(()) => 0,
+        Err(error) => error.line(),
+    }
+}
+
 // The end of the text, where `line` is the line after the last: broken there, unless the closing line stands above.
 fn finish(m: LinesJudged, line: usize) -> Result<(), CheckError>
     ensures { (job : Job) (st : PassState) (stands : List (Option B.Track)) → KeepsState job st m stands → result ≡ verdict_answer (pass_end line st) }

@@ -26,18 +26,9 @@ use answers::TextRefusal;
 fn reply(answer: Result<usize, TextRefusal>, line: &mut usize, bytes: &mut usize) -> usize
     ensures { RepliesWith answer result line.new bytes.new }
 {
-    match answer {
-        Ok(written) => {
-            *line = 0;
-            *bytes = written;
-            0
-        }
-        Err(refusal) => {
-            *line = refusal.line();
-            *bytes = refusal.needed();
-            refusal.number()
-        }
-    }
+    *line = answers::answer_line(answer);
+    *bytes = answers::answer_bytes(answer);
+    answers::answer_number(answer)
 }
 
 // Routes a job into a buffer, and answers in document 01's numbers: the number of the refusal, 0 where the layout is written; through
@@ -93,18 +84,10 @@ pub extern "C" fn hankuribo_check(
     ensures answer { CheckRepliesWith (check_answer (read_job job.now) layout.now) result line.new broken.new }
     ensures right { (a : Result (Unit {0}) CheckError) × (CheckRepliesWith a result line.new broken.new × RightVerdict job.now layout.now a) }
 {
-    match checker::check(job, layout) {
-        Ok(()) => {
-            *line = 0;
-            *broken = 0;
-            0
-        }
-        Err(error) => {
-            *line = error.line();
-            *broken = usize::from(error.is_broken());
-            error.number()
-        }
-    }
+    let answer = checker::check(job, layout);
+    *line = checker::check_line(answer);
+    *broken = usize::from(checker::is_broken(answer));
+    checker::check_number(answer)
 }
 
 // The sums of all tracks, added up.

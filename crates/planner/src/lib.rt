@@ -2,11 +2,13 @@
 #![tactic(auto)]
 
 ghost use Rattle.std.specs.Prelude.{◌≡◌, ◌*◌, ◌≤◌, length};
+ghost use Rattle.board.specs.Accepted.{AcceptedJob};
+ghost use Rattle.board.specs.Stored.{job_of};
 ghost use Rattle.planner.specs.Chosen.{BestPlan};
 ghost use Rattle.planner.specs.JobPlans.{job_plan_of};
 ghost use Rattle.planner.specs.Progressed.{OnTurn, progress_to, track_plan};
 
-use board::{Job, Row, Track, Wired};
+use board::{BoardNet, Job, Row, StoredJob, Track, Wired};
 use candidates::{Candidates, preceding};
 use choice::{TrackPlan, fill};
 use gathering::gather;
@@ -21,17 +23,21 @@ pub struct JobPlan {
 
 // A track recorded in p from its plan, where p has the tracks before it: the walk from row 1 takes the net chosen for a row, and goes on
 // below it.
-pub fn record_track(p: &mut JobPlan, job: &Job, plan: &TrackPlan, track: Track)
-    requires on_turn { OnTurn job.now track.0 p.old }
-    requires plan_value { plan.now ≡ track_plan job.now track.0 }
-    ensures { p.new ≡ progress_to job.now track.0 }
+pub fn record_track(p: &mut JobPlan, job: &StoredJob, plan: &TrackPlan, track: Track)
+    requires accepted_job { AcceptedJob (job_of job.now) }
+    requires on_turn { OnTurn (job_of job.now) track.0 p.old }
+    requires plan_value { plan.now ≡ track_plan (job_of job.now) track.0 }
+    ensures { p.new ≡ progress_to (job_of job.now) track.0 }
 {
-    let board = job.board();
+    let board = job.board;
     p.sums[track.0 - 1] = plan.sum;
     let mut j = 1;
     while j <= board.rows {
         if let Some(c) = plan.choice[j - 1] {
-            let net = job.net(c);
+            let net = BoardNet {
+                board,
+                net: job.nets[c],
+            };
             let shape = net.shortest();
             let bottom = j + net.needed() - 1;
             let wired = Wired {
@@ -64,7 +70,7 @@ fn plan_tracks(job: &Job, flags: &mut [u8]) -> JobPlan
     for t in 1..=board.tracks {
         gather(job, &before, &p.nets, Track(t), &mut found, flags);
         let plan = fill(&found, flags, board.rows);
-        record_track(&mut p, job, &plan, Track(t));
+        record_track(&mut p, job.stored(), &plan, Track(t));
     }
     p
 }

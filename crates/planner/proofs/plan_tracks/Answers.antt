@@ -1,6 +1,6 @@
 -- `planner::plan_tracks` meets its contract. Assumes nothing.
 use Prim.Native.Nat.{◌-◌}
-use mathlib.Core.Path.{◌≡◌, ap, ◌∙◌}
+use mathlib.Core.Path.{◌≡◌, ap, ap₂, ◌∙◌}
 use native.Mathlib.Omega.{arith}
 use Rattle.candidates.specs.Gathered.{Gathered}
 use Rattle.choice.proofs.GatheredBounds.{gathered_bounds}
@@ -30,19 +30,21 @@ fill-plan-requires c =
 pub record_track-requires-clause-on_turn : goal.record_track-requires-clause-on_turn
 record_track-requires-clause-on_turn c =
     let tracks = ap (λ b. b.tracks) c.board-board.ensures.board in
-    record { track_range = (omega arith, omega arith); so_far = c.loop-t.invariant }
+    let on_turn : OnTurn c.args.job.now c.loop-t.t c.loop-t.p = record { track_range = (omega arith, omega arith); so_far = c.loop-t.invariant } in
+    rw c.stored.ensures.stored on_turn
 
 pub record_track-requires-clause-plan_value : goal.record_track-requires-clause-plan_value
 record_track-requires-clause-plan_value c =
     let g = (goal.at.record_track-requires-clause-plan_value c).After-gather in
-    (rw c.board-board.ensures.board at c.fill-plan.ensures)
-    ∙ filled_plan_lem c.args.job.now _ c.loop-t.t c.gather.new.found _ c.board-board.ensures.accepted (held g)
+    rw c.stored.ensures.stored
+    ((rw c.board-board.ensures.board at c.fill-plan.ensures)
+    ∙ filled_plan_lem c.args.job.now _ c.loop-t.t c.gather.new.found _ c.board-board.ensures.accepted (held g))
 
 -- after the last track
 pub returns-2-clause-answer : goal.returns-2-clause-answer
 returns-2-clause-answer c =
     let e : c.loop-t.t ≡ c.args.job.now.board.tracks = omega (arith, ap (λ b. b.tracks) c.board-board.ensures.board) in
-    c.record_track.ensures ∙ ap (progress_to c.args.job.now) e ∙ all_planned c.args.job.now
+    c.record_track.ensures ∙ ap₂ progress_to c.stored.ensures.stored e ∙ all_planned c.args.job.now
 
 pub returns-2-clause-best : goal.returns-2-clause-best
 returns-2-clause-best c = rw (returns-2-clause-answer c) (best_plan c.args.job.now c.board-board.ensures.accepted)

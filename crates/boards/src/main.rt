@@ -1,9 +1,7 @@
 // Reads jobs on standard input, each ended by byte 255, and prints for each its layout or its refusal.
 #![tactic(auto)]
 
-use printing::Route;
-
 // Prints the layout or the refusal of each job on standard input. A failure to print is passed over.
 fn main(rt: HostRuntime) {
-    jobinput::print_each::<Route>(&rt);
+    jobinput::route_each(&rt);
 }

@@ -1,9 +1,7 @@
 // Reads jobs on standard input, each ended by byte 255, and prints for each its fixed text or its refusal.
 #![tactic(auto)]
 
-use printing::House;
-
 // Prints the fixed text or the refusal of each job on standard input. A failure to print is passed over.
 fn main(rt: HostRuntime) {
-    jobinput::print_each::<House>(&rt);
+    jobinput::house_each(&rt);
 }

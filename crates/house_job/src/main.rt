@@ -2,5 +2,5 @@
 #![tactic(auto)]
 
 fn main(rt: HostRuntime) {
-    jobinput::print_input::<printing::House>(&rt);
+    jobinput::house_input(&rt);
 }

@@ -1,3 +1,4 @@
 -- Laws of the jobs on standard input.
 pub mod Each
+pub mod Promised
 pub mod TakenOut

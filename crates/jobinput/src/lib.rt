@@ -16,15 +16,30 @@ ghost use Rattle.jobinput.specs.EachPrinted.{each_text};
 ghost use Rattle.texts.specs.Ends.{texts_of};
 
 use files::FileText;
-use printing::{House, Operation, Printed, Route};
+use printer::{FixedTexts, JobPrinter, Layouts, TextsOf};
+use printing::{Operation, Printed};
 use std::io::{self, Read, Write};
 use texts::Texts;
+
+mod printer;
 
 // The job as it was read, and what is printed for it: the job's text comes back, so that a contract can say whose text or refusal that is.
 #[derive(Clone, Copy)]
 pub struct PrintedInput {
     pub job: FileText,
     pub printed: Printed,
+}
+
+// Prints the text of the job that a reader gives, in the way of a printer.
+fn input_by<P: JobPrinter, R: Read + Drop>(input: R) -> PrintedInput
+    ensures read { ReadText result.job }
+    ensures given { IfSome (R.remaining input) (λ xs. StartsWith xs (text_of result.job)) }
+    ensures printed { InputPrinted P.text result }
+    ensures promised { OfInput (λ j text. P.Promised j text) result }
+{
+    let job = files::text_from(Ok(input));
+    let printed = P::print(job.text());
+    PrintedInput { job, printed }
 }
 
 // Writes the text of the job that a reader gives, as standard input does.
@@ -34,12 +49,10 @@ pub fn printed_input<T: Operation, R: Read + Drop>(input: R) -> PrintedInput
     ensures printed { InputPrinted T.text result }
     ensures promised { OfInput (λ j text. T.Promised j text) result }
 {
-    let job = files::text_from(Ok(input));
-    let printed = printing::print_text::<T>(job.text());
-    PrintedInput { job, printed }
+    input_by::<TextsOf<T>, R>(input)
 }
 
-// Routes the job that a reader gives, as standard input does: what `print_input::<Route>` prints.
+// Routes the job that a reader gives, as standard input does: what `route_input` prints.
 pub fn routed_input<R: Read + Drop>(input: R) -> PrintedInput
     ensures read { ReadText result.job }
     ensures given { IfSome (R.remaining input) (λ xs. StartsWith xs (text_of result.job)) }
@@ -48,10 +61,10 @@ pub fn routed_input<R: Read + Drop>(input: R) -> PrintedInput
     ensures sound { OfInput (λ j text. Sound j text) result }
     ensures unbeaten { OfInput (λ j text. UnbeatenText j text) result }
 {
-    printed_input::<Route, R>(input)
+    input_by::<Layouts, R>(input)
 }
 
-// The fixed text of the job that a reader gives, as standard input does: what `print_input::<House>` prints.
+// The fixed text of the job that a reader gives, as standard input does: what `house_input` prints.
 pub fn fixed_input<R: Read + Drop>(input: R) -> PrintedInput
     ensures read { ReadText result.job }
     ensures given { IfSome (R.remaining input) (λ xs. StartsWith xs (text_of result.job)) }
@@ -61,7 +74,17 @@ pub fn fixed_input<R: Read + Drop>(input: R) -> PrintedInput
     ensures one_text { OfInput OneText result }
     ensures again { OfInput (λ j text. FixedAgain text) result }
 {
-    printed_input::<House, R>(input)
+    input_by::<FixedTexts, R>(input)
+}
+
+// Reads a job on standard input, and prints its layout, or its refusal as `(refused number line)`. A failure to print is passed over.
+pub fn route_input(rt: &(impl Input + Print)) {
+    let _ = rt.write_all(routed_input(rt.reader()).printed.text());
+}
+
+// Reads a job on standard input, and prints its fixed text, or its refusal as `(refused number line)`. A failure to print is passed over.
+pub fn house_input(rt: &(impl Input + Print)) {
+    let _ = rt.write_all(fixed_input(rt.reader()).printed.text());
 }
 
 // Reads a job on standard input, and prints its text, or its refusal as `(refused number line)`. A failure to print is passed over.
@@ -69,16 +92,49 @@ pub fn print_input<T: Operation>(rt: &(impl Input + Print)) {
     let _ = rt.write_all(printed_input::<T, _>(rt.reader()).printed.text());
 }
 
+// Writes, for each job of an input, what a printer prints for it, as `write_each` does.
+fn write_by<P: JobPrinter, W: Write>(out: &mut W, input: &[u8]) -> io::Result<()>
+    ensures { OnOk result (Appends (W.contents out.old) (W.contents out.new) (each_text P.text (texts_of input.now))) }
+{
+    let mut done = Ok(());
+    for job in Texts::new(input) {
+        done = done.and(out.write_all(P::print(job).text()));
+    }
+    done
+}
+
 // Writes, for each job of an input, each ended by byte 255, its text or its refusal, whether or not one before could be written. It answers
 // the first failure.
 pub fn write_each<T: Operation, W: Write>(out: &mut W, input: &[u8]) -> io::Result<()>
     ensures { OnOk result (Appends (W.contents out.old) (W.contents out.new) (each_text T.text (texts_of input.now))) }
 {
-    let mut done = Ok(());
-    for job in Texts::new(input) {
-        done = done.and(out.write_all(printing::print_text::<T>(job).text()));
-    }
-    done
+    write_by::<TextsOf<T>, W>(out, input)
+}
+
+// Writes, for each job of an input, its layout or its refusal, as `write_each` does.
+pub fn write_layouts<W: Write>(out: &mut W, input: &[u8]) -> io::Result<()>
+    ensures { OnOk result (Appends (W.contents out.old) (W.contents out.new) (each_text route_text (texts_of input.now))) }
+{
+    write_by::<Layouts, W>(out, input)
+}
+
+// Writes, for each job of an input, its fixed text or its refusal, as `write_each` does.
+pub fn write_fixed_texts<W: Write>(out: &mut W, input: &[u8]) -> io::Result<()>
+    ensures { OnOk result (Appends (W.contents out.old) (W.contents out.new) (each_text house_text (texts_of input.now))) }
+{
+    write_by::<FixedTexts, W>(out, input)
+}
+
+// Reads jobs on standard input, each ended by byte 255, and prints for each its layout or its refusal. A failure to print is passed over.
+pub fn route_each(rt: &(impl Input + Print)) {
+    let input: texts::Input = files::filled_from(&mut rt.reader());
+    let _ = write_layouts(&mut io::writer(rt), input.text());
+}
+
+// Reads jobs on standard input, each ended by byte 255, and prints for each its fixed text or its refusal. A failure to print is passed over.
+pub fn house_each(rt: &(impl Input + Print)) {
+    let input: texts::Input = files::filled_from(&mut rt.reader());
+    let _ = write_fixed_texts(&mut io::writer(rt), input.text());
 }
 
 // Reads jobs on standard input, each ended by byte 255, and prints for each its text or its refusal. A failure to print is passed over.

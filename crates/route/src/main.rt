@@ -2,5 +2,5 @@
 #![tactic(auto)]
 
 fn main(rt: HostRuntime) {
-    jobinput::print_input::<printing::Route>(&rt);
+    jobinput::route_input(&rt);
 }

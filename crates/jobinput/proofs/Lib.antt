@@ -1,4 +1,3 @@
 -- Laws of the jobs on standard input.
 pub mod Each
-pub mod Promised
 pub mod TakenOut

@@ -16,30 +16,18 @@ ghost use Rattle.jobinput.specs.EachPrinted.{each_text};
 ghost use Rattle.texts.specs.Ends.{texts_of};
 
 use files::FileText;
-use printer::{FixedTexts, JobPrinter, Layouts, TextsOf};
+use job_writer::{FixedTexts, JobWriter, Layouts, TextsOf};
 use printing::{Operation, Printed};
 use std::io::{self, Read, Write};
 use texts::Texts;
 
-mod printer;
+mod job_writer;
 
 // The job as it was read, and what is printed for it: the job's text comes back, so that a contract can say whose text or refusal that is.
 #[derive(Clone, Copy)]
 pub struct PrintedInput {
     pub job: FileText,
     pub printed: Printed,
-}
-
-// Prints the text of the job that a reader gives, in the way of a printer.
-fn input_by<P: JobPrinter, R: Read + Drop>(input: R) -> PrintedInput
-    ensures read { ReadText result.job }
-    ensures given { IfSome (R.remaining input) (λ xs. StartsWith xs (text_of result.job)) }
-    ensures printed { InputPrinted P.text result }
-    ensures promised { OfInput (λ j text. P.Promised j text) result }
-{
-    let job = files::text_from(Ok(input));
-    let printed = P::print(job.text());
-    PrintedInput { job, printed }
 }
 
 // Writes the text of the job that a reader gives, as standard input does.
@@ -49,7 +37,9 @@ pub fn printed_input<T: Operation, R: Read + Drop>(input: R) -> PrintedInput
     ensures printed { InputPrinted T.text result }
     ensures promised { OfInput (λ j text. T.Promised j text) result }
 {
-    input_by::<TextsOf<T>, R>(input)
+    let job = files::text_from(Ok(input));
+    let printed = printing::print_text::<T>(job.text());
+    PrintedInput { job, printed }
 }
 
 // Routes the job that a reader gives, as standard input does: what `route_input` prints.
@@ -61,7 +51,11 @@ pub fn routed_input<R: Read + Drop>(input: R) -> PrintedInput
     ensures sound { OfInput (λ j text. Sound j text) result }
     ensures unbeaten { OfInput (λ j text. UnbeatenText j text) result }
 {
-    input_by::<Layouts, R>(input)
+    let job = files::text_from(Ok(input));
+    PrintedInput {
+        printed: printing::print_route(job.text()),
+        job,
+    }
 }
 
 // The fixed text of the job that a reader gives, as standard input does: what `house_input` prints.
@@ -74,7 +68,11 @@ pub fn fixed_input<R: Read + Drop>(input: R) -> PrintedInput
     ensures one_text { OfInput OneText result }
     ensures again { OfInput (λ j text. FixedAgain text) result }
 {
-    input_by::<FixedTexts, R>(input)
+    let job = files::text_from(Ok(input));
+    PrintedInput {
+        printed: printing::print_house(job.text()),
+        job,
+    }
 }
 
 // Reads a job on standard input, and prints its layout, or its refusal as `(refused number line)`. A failure to print is passed over.
@@ -92,13 +90,13 @@ pub fn print_input<T: Operation>(rt: &(impl Input + Print)) {
     let _ = rt.write_all(printed_input::<T, _>(rt.reader()).printed.text());
 }
 
-// Writes, for each job of an input, what a printer prints for it, as `write_each` does.
-fn write_by<P: JobPrinter, W: Write>(out: &mut W, input: &[u8]) -> io::Result<()>
-    ensures { OnOk result (Appends (W.contents out.old) (W.contents out.new) (each_text P.text (texts_of input.now))) }
+// Writes, for each job of an input, its text or its refusal by a `JobWriter`, as `write_each` says.
+fn write_by<J: JobWriter, W: Write>(out: &mut W, input: &[u8]) -> io::Result<()>
+    ensures { OnOk result (Appends (W.contents out.old) (W.contents out.new) (each_text J.text (texts_of input.now))) }
 {
     let mut done = Ok(());
     for job in Texts::new(input) {
-        done = done.and(out.write_all(P::print(job).text()));
+        done = done.and(J::write(out, job));
     }
     done
 }
@@ -111,14 +109,14 @@ pub fn write_each<T: Operation, W: Write>(out: &mut W, input: &[u8]) -> io::Resu
     write_by::<TextsOf<T>, W>(out, input)
 }
 
-// Writes, for each job of an input, its layout or its refusal, as `write_each` does.
+// Writes, for each job of an input, its layout or its refusal, as `write_each` says.
 pub fn write_layouts<W: Write>(out: &mut W, input: &[u8]) -> io::Result<()>
     ensures { OnOk result (Appends (W.contents out.old) (W.contents out.new) (each_text route_text (texts_of input.now))) }
 {
     write_by::<Layouts, W>(out, input)
 }
 
-// Writes, for each job of an input, its fixed text or its refusal, as `write_each` does.
+// Writes, for each job of an input, its fixed text or its refusal, as `write_each` says.
 pub fn write_fixed_texts<W: Write>(out: &mut W, input: &[u8]) -> io::Result<()>
     ensures { OnOk result (Appends (W.contents out.old) (W.contents out.new) (each_text house_text (texts_of input.now))) }
 {

@@ -6,4 +6,4 @@ use Rattle.jobinput.proofs.write_by.Given as goal
 
 abbrev pub invariant-loop-job : goal.invariant-loop-job
 invariant-loop-job g l =
-    OnOk l.done (Printing g.P.JobPrinter.text (texts_of l.input) (texts_of l.job-iterator.rest.now) (g.W.Write.contents l.initial.out) (g.W.Write.contents l.out))
+    OnOk l.done (Printing g.J.JobWriter.text (texts_of l.input) (texts_of l.job-iterator.rest.now) (g.W.Write.contents l.initial.out) (g.W.Write.contents l.out))

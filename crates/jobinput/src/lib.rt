@@ -123,16 +123,23 @@ pub fn write_fixed_texts<W: Write>(out: &mut W, input: &[u8]) -> io::Result<()>
     write_by::<FixedTexts, W>(out, input)
 }
 
+// Room for the jobs of an input. It is filled where it stands, so that the stack holds it once.
+fn room() -> [u8; 1048576] {
+    [0u8; 1048576]
+}
+
 // Reads jobs on standard input, each ended by byte 255, and prints for each its layout or its refusal. A failure to print is passed over.
 pub fn route_each(rt: &(impl Input + Print)) {
-    let input: texts::Input = files::filled_from(&mut rt.reader());
-    let _ = write_layouts(&mut io::writer(rt), input.text());
+    let mut input = room();
+    let used = files::read_full(&mut rt.reader(), &mut input);
+    let _ = write_layouts(&mut io::writer(rt), &input[..used]);
 }
 
 // Reads jobs on standard input, each ended by byte 255, and prints for each its fixed text or its refusal. A failure to print is passed over.
 pub fn house_each(rt: &(impl Input + Print)) {
-    let input: texts::Input = files::filled_from(&mut rt.reader());
-    let _ = write_fixed_texts(&mut io::writer(rt), input.text());
+    let mut input = room();
+    let used = files::read_full(&mut rt.reader(), &mut input);
+    let _ = write_fixed_texts(&mut io::writer(rt), &input[..used]);
 }
 
 // Reads jobs on standard input, each ended by byte 255, and prints for each its text or its refusal. A failure to print is passed over.

@@ -30,7 +30,7 @@ use Rattle.candidates.specs.Gathered.{eligible_from, eligible_nets}
 use Rattle.candidates.proofs.NetBefore.{before_from, numbers_differ}
 
 -- the index found, by cases
-position_cases : {P : Type 0} (f : Net → Bool) (xs : List Net) (i : ℕ)
+pub position_cases : {P : Type 0} (f : Net → Bool) (xs : List Net) (i : ℕ)
     → (((x : Net) → Memᴰ x xs → f x ≡ false) → position_from f i xs ≡ None → P)
     → ((k : ℕ) → k < length xs → f (get_or xs k no_net) ≡ true → position_from f i xs ≡ Some (i + k) → P)
     → P

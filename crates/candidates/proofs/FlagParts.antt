@@ -1,11 +1,16 @@
 -- The flags part after part: a part lent and given back, what stands in each part afterwards, and the length. Assumes nothing.
 use Prim.Native.Nat.{ℕ, ◌+◌, ◌*◌, ◌-◌, ◌≤◌, ◌<◌}
-use mathlib.Core.Path.{◌≡◌, ◌∙◌}
+use mathlib.Core.Path.{◌≡◌, sym, ◌∙◌}
+use mathlib.Core.Bool.{true, false}
 use mathlib.Core.List.{List, ◌++◌}
 use native.Mathlib.Omega.{arith}
 use lib.ListN.{length, get_or, take, drop, length-drop, get_or-append}
 use lib.Seq.{length-take-le, get_or-append-add, get_or-take}
 use borrow.Rule.Slice.PartMut.{mid_of, put_mid, same_len_mid}
+use Rattle.blockmap.specs.Bits.{is_set}
+use Rattle.blockmap.specs.Clear.{all_unset, flag_tops}
+use Rattle.blockmap.proofs.ClearRows.{clear_of}
+use Rattle.blockmap.proofs.ClearTops.{flags_same}
 use Rattle.candidates.specs.Gathered.{on_part}
 
 -- a part that was lent, and given back with f done to it
@@ -15,6 +20,12 @@ unfolding on_part
 part_back i f bytes part e =
     let n : i * 1024 + 1024 - i * 1024 ≡ 1024 = omega arith in
     rw (e, n)
+
+-- where no row is set, every top is clear
+pub all_clear : (words : List ℕ) (m first k : ℕ) (flags : List ℕ) → ((row : ℕ) → is_set words row ≡ false)
+    → flag_tops (λ top. true) first k flags ≡ flag_tops (λ top. all_unset words top m) first k flags
+all_clear words m first k flags h =
+    flags_same (λ top. true) (λ top. all_unset words top m) first k flags (λ top a b. sym (clear_of words top m (λ row p q. h row)))
 
 -- the same done to a part in two ways
 pub part_same : (i : ℕ) (f g : List ℕ → List ℕ) (bytes : List ℕ) → ((part : List ℕ) → f part ≡ g part) → on_part i f bytes ≡ on_part i g bytes

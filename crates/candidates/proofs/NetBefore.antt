@@ -27,7 +27,7 @@ use Rattle.candidates.proofs.Prefixes.{padded_more}
 
 module _ (f : Net → Bool) where
   -- none of the first passes
-  position_after : (xs ys : List Net) (i : ℕ) → Each (λ x. f x ≡ false) xs → position_from f i (xs ++ ys) ≡ position_from f (i + length xs) ys
+  pub position_after : (xs ys : List Net) (i : ℕ) → Each (λ x. f x ≡ false) xs → position_from f i (xs ++ ys) ≡ position_from f (i + length xs) ys
   position_after [] ys i a =
       let e : i + 0 ≡ i = omega arith in
       rw e
@@ -36,11 +36,11 @@ module _ (f : Net → Bool) where
       rw (a.0, ← e) (position_after xs ys (i + 1) a.1)
 
   -- the last does not pass
-  position_skip : (xs : List Net) (x : Net) (i : ℕ) → f x ≡ false → position_from f i (xs ++ (x ∷ [])) ≡ position_from f i xs
+  pub position_skip : (xs : List Net) (x : Net) (i : ℕ) → f x ≡ false → position_from f i (xs ++ (x ∷ [])) ≡ position_from f i xs
   position_skip [] x i e = rw e
   position_skip (y ∷ ys) x i e = rw (position_skip ys x (i + 1) e)
 
-  position_range : (xs : List Net) (i n : ℕ) → i + length xs ≤ n → IfSome (position_from f i xs) (λ k. k < n)
+  pub position_range : (xs : List Net) (i n : ℕ) → i + length xs ≤ n → IfSome (position_from f i xs) (λ k. k < n)
   position_range [] i n h = tt
   position_range (x ∷ xs) i n h =
       by_test (f x) (λ e. rw e (omega arith)) (λ e. rw e (position_range xs (i + 1) n (omega arith)))
@@ -72,7 +72,7 @@ module _ (job : Job) (a : AcceptedJob job) (i : ℕ) (h : i < length job.nets) w
   abbrev net : Net
   net = get_or job.nets i no_net
 
-  net_mem : Memᴰ net job.nets
+  pub net_mem : Memᴰ net job.nets
   net_mem = mem_at job.nets i no_net h
 
   pub accepted_at : AcceptedNet job.board net

@@ -38,7 +38,7 @@ pub block_range : (job : Job) → AcceptedJob job → (i : ℕ) → i < length j
 block_range job a i h = a.blocks_each (get_or job.blocks i no_block) (mem_at job.blocks i no_block h)
 
 -- no block on the track
-none_closes : (bs : List Block) (t : ℕ) → list_any (λ b. eqb b.track.0 t) bs ≡ false → (row : ℕ) → any_of (λ b. closes_row b t row) bs ≡ false
+pub none_closes : (bs : List Block) (t : ℕ) → list_any (λ b. eqb b.track.0 t) bs ≡ false → (row : ℕ) → any_of (λ b. closes_row b t row) bs ≡ false
 unfolding any_of closes_row
 none_closes [] t h row = refl
 none_closes (b ∷ bs) t h row =

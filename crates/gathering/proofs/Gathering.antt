@@ -36,7 +36,7 @@ use Rattle.candidates.proofs.Slots.{slots_put, slot_flagged, slots_more, gathere
 use Rattle.toptable.specs.TopsTable.{tops_if, TableOf}
 
 -- the tops of an accepted net are rows of its part
-tops_range : (board : Board) (n : Net) → BoardInRange board → AcceptedNet board n → let tops = tops_of board n in
+pub tops_range : (board : Board) (n : Net) → BoardInRange board → AcceptedNet board n → let tops = tops_of board n in
     (1 ≤ tops.first.0) × (tops.first.0 ≤ tops.last.0) × (1 ≤ tops.need) × (tops.last.0 + tops.need ≤ 1025)
 unfolding tops_of
 tops_range board n b a =

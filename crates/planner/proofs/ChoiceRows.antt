@@ -28,7 +28,7 @@ pub record IndexOf (ns : List Net) (n : Net) (i : ℕ) : Type 0 where
   pub there : (d : Net) → get_or ns i d ≡ n
 
 -- a net is found by its number, where the first net of the list has index i
-index_from_lem : (ns : List Net) (n : Net) (i : ℕ) → EachPair (λ a b. a.number < b.number) ns → Memᴰ n ns →
+pub index_from_lem : (ns : List Net) (n : Net) (i : ℕ) → EachPair (λ a b. a.number < b.number) ns → Memᴰ n ns →
     (k : ℕ) × (position_from (numbered n) i ns ≡ Some (i + k)) × IndexOf ns n k
 index_from_lem [] n i rise m = absurd (Memᴰ.not-nil m)
 index_from_lem (x ∷ xs) n i rise m =

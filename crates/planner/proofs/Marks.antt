@@ -86,3 +86,12 @@ module _ {B : Type 0} where
         ap (marked at entry ps) (set_net f ns rest p.net (at p.net) (entry p) rise r.0) ∙
         marked_all ps g r.1 d.1 ∙
         ap (λ l. l ++ rest) (map_same (with_wires entry ps g) (with_wires entry (p ∷ ps) f) ns (λ m _. with_first entry p ps f m d.0))
+
+-- what is made of an entry is made of the wire's and of the one of before
+entry_or_map : {A B : Type 0} (g : A → B) (entry : Placement → A) (x : A) (o : Option Placement) → entry_or (λ p. g (entry p)) (g x) o ≡ g (entry_or entry x o)
+entry_or_map g entry x None = refl
+entry_or_map g entry x (Some p) = refl
+
+pub with_map : {A B : Type 0} (g : A → B) (entry : Placement → A) (ps : List Placement) (f : Net → A) (n : Net) →
+    with_wires (λ p. g (entry p)) ps (λ m. g (f m)) n ≡ g (with_wires entry ps f n)
+with_map g entry ps f n = entry_or_map g entry (f n) (wire_with n.number ps)

@@ -7,7 +7,7 @@ ghost use Rattle.reader.specs.Reports.{report_text};
 ghost use Rattle.text.specs.Written.{Written};
 
 use files::buffer::TextBuffer;
-use texts::{Input, Texts};
+use texts::Texts;
 
 // What a text is read as, in a line to print.
 #[tactic(auto, using(files::proofs::Reading::written_prefix))]
@@ -19,10 +19,16 @@ fn print_reading(text: &[u8]) -> TextBuffer<32>
     TextBuffer { bytes, used }
 }
 
+// Room for the texts.
+fn room() -> [u8; 1048576] {
+    [0u8; 1048576]
+}
+
 // Prints what each text on standard input is read as. A failure to print is passed over.
 fn main(rt: HostRuntime) {
-    let input: Input = files::filled_from(&mut rt.reader());
-    for text in Texts::new(input.text()) {
+    let mut input = room();
+    let n = files::read_full(&mut rt.reader(), &mut input);
+    for text in Texts::new(&input[..n]) {
         let _ = rt.write_all(print_reading(text).text());
     }
 }

@@ -16,6 +16,6 @@ returns c =
     let job = c.args.job.now in
     let e = drawn_text job c.requires _ c.plan_job-plan.ensures.answer c.draw-needed.ensures in
     let w = c.put_answer.ensures in record {
-      answer = rw e at w.answer;
-      buffer = rw e at w.buffer;
+      answer = rw (← e) w.answer;
+      buffer = rw (← e) w.buffer;
     }

@@ -46,7 +46,7 @@ module _ (f : Net → Bool) where
       by_test (f x) (λ e. rw e (omega arith)) (λ e. rw e (position_range xs (i + 1) n (omega arith)))
 
 -- tests that agree on the nets
-position_same : (f g : Net → Bool) (xs : List Net) (i : ℕ) → ((x : Net) → Memᴰ x xs → f x ≡ g x) → position_from f i xs ≡ position_from g i xs
+pub position_same : (f g : Net → Bool) (xs : List Net) (i : ℕ) → ((x : Net) → Memᴰ x xs → f x ≡ g x) → position_from f i xs ≡ position_from g i xs
 position_same f g [] i h = refl
 position_same f g (x ∷ xs) i h =
     rw (h x (Memᴰ.head refl), position_same f g xs (i + 1) (λ y m. h y (Memᴰ.tail m)))

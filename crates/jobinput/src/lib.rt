@@ -74,7 +74,7 @@ pub fn fixed_input<R: Read + Drop>(input: R) -> PrintedInput
 }
 
 // Prints what is to be printed. A failure to print is passed over. Here and above the bytes are copied before they are lent, which takes less of the
-// stack, and less time: what is lent itself can't be made where it is handed out.
+// stack, and less time: what a method lends is kept a second time.
 fn print(rt: &impl Print, printed: Printed) {
     let bytes = printed.bytes;
     let _ = rt.write_all(&bytes[..printed.used]);

@@ -110,12 +110,12 @@ module _ (job : Job) (n : ℕ) (j : LinesAbove) (stands : List (Option Track)) w
   unfolding pass_in_turn
   track_off st u s = ends_broken st (track u s) (λ m. passes_on (running (add_track n u s m))) (λ m. refl)
 
-  loose_off : (st : PassState) (i l : ℕ) → broken_track j ≡ Some l → can_stand job st (loose i) ≡ true → KeepsState job st (Is.Running j) stands →
+  pub loose_off : (st : PassState) (i l : ℕ) → broken_track j ≡ Some l → can_stand job st (loose i) ≡ true → KeepsState job st (Is.Running j) stands →
       KeepsStep job (pass_line job n st (loose i)) (Err l) stands
   unfolding pass_in_turn
   loose_off st i = ends_broken st (loose i) (λ m. or_broken n (is_unlined job m.lined i && ltb m.last i) (passes_on (running (add_loose i m)))) (λ m. refl)
 
-  closing_off : (st : PassState) (l : ℕ) → broken_track j ≡ Some l → can_stand job st closes ≡ true → KeepsState job st (Is.Running j) stands →
+  pub closing_off : (st : PassState) (l : ℕ) → broken_track j ≡ Some l → can_stand job st closes ≡ true → KeepsState job st (Is.Running j) stands →
       KeepsStep job (pass_line job n st closes) (Err l) stands
   unfolding pass_in_turn
   closing_off st = ends_broken st closes (λ m. or_broken n (all_of (is_on m.lined) job.nets) (passes_on finished)) (λ m. refl)
@@ -224,7 +224,7 @@ module _ (job : Job) (n : ℕ) (j : LinesAbove) (stands : List (Option Track)) w
     }
 
     -- its test fails
-    loose_broken : (st : PassState) → can_stand job st (loose number) ≡ true → broken_track j ≡ None →
+    pub loose_broken : (st : PassState) → can_stand job st (loose number) ≡ true → broken_track j ≡ None →
         ((m : Summary) → KeepsSummary job m j stands → NetLines job m stands → (is_unlined job m.lined number && ltb m.last number) ≡ false) →
         KeepsState job st (Is.Running j) stands → KeepsStep job (pass_line job n st (loose number)) (Err n) stands
     unfolding pass_in_turn or_broken

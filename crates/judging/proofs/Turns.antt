@@ -121,13 +121,13 @@ module _ (job : Job) where
     wire_place (running m) w h = rw (← h.last_is, no_last m.last, h.track_is, is)
     wire_place finished w h = absurd h
 
-    loose_place : (st : PassState) (i : ℕ) → KeepsState job st (Is.Running j) stands → eqb j.track.0 k ≡ can_stand st (loose i)
+    pub loose_place : (st : PassState) (i : ℕ) → KeepsState job st (Is.Running j) stands → eqb j.track.0 k ≡ can_stand st (loose i)
     unfolding can_stand is_in_turn ends_track
     loose_place unbegun i h = absurd h
     loose_place (running m) i h = rw (h.track_is, is)
     loose_place finished i h = absurd h
 
-    closing_place : (st : PassState) → KeepsState job st (Is.Running j) stands → eqb j.track.0 k ≡ can_stand st closes
+    pub closing_place : (st : PassState) → KeepsState job st (Is.Running j) stands → eqb j.track.0 k ≡ can_stand st closes
     unfolding can_stand is_in_turn ends_track
     closing_place unbegun h = absurd h
     closing_place (running m) h = rw (h.track_is, is)

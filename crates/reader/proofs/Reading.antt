@@ -127,7 +127,7 @@ module _ (s : List ℕ) (stage : Stage) (a : NetsRead) (slots : StoredJob) (p : 
 
   -- the end of the text
   module _ (e : None ≡ form_step s p) where
-    left_over : read_from 1 start (lines s) ≡ ended (p.place.passed + 1) (state_of stage slots)
+    pub left_over : read_from 1 start (lines s) ≡ ended (p.place.passed + 1) (state_of stage slots)
     unfolding form_step read_from
     left_over = w.rest ∙ (rw ((end_of_lines s p.place (none_left s (step_at s p.place) e)).0, add-one p.place.passed))
 

@@ -6,7 +6,7 @@
 Prints a line for each citation of something that is missing, then how many there are, and nothing if none is missing. With --count it
 always prints the number of citations. The exit status is 1 if something is missing.
 
-It looks at the text in back quotes in README.md, docs/*.md and docs/orders/*.md, indented and fenced text left out, and PORT.md and DESIGN-PASS.md
+It looks at the text in back quotes in README.md, docs/*.md and docs/orders/*.md, indented and fenced text left out, and PORT.md, DESIGN-PASS.md and LOOK-BACK.md
 too, which name what stood at another commit:
 
     X/specs/F  X/specs/F.d  X/specs/F.d.f    a file of the crate X; what it declares; a field or case of that
@@ -222,7 +222,7 @@ def citations(block):
 
 def main():
     count, missing = 0, []
-    for doc in [root / 'README.md', *(path for path in sorted((root / 'docs').glob('*.md')) if path.name not in ('PORT.md', 'DESIGN-PASS.md')), *sorted((root / 'docs/orders').glob('*.md'))]:
+    for doc in [root / 'README.md', *(path for path in sorted((root / 'docs').glob('*.md')) if path.name not in ('PORT.md', 'DESIGN-PASS.md', 'LOOK-BACK.md')), *sorted((root / 'docs/orders').glob('*.md'))]:
         for first, block in blocks(doc.read_text()):
             last = {}
             for place, cited, part in citations(block):
